@@ -1,0 +1,13 @@
+pub mod Nearness
+pub mod Holding
+pub mod Compared
+pub mod Adding
+pub mod Scaling
+pub mod Fitting
+pub mod Keeping
+pub mod Lawful
+pub mod Grids
+pub mod Rightness
+pub mod Orders
+pub mod Placing
+pub mod Standing

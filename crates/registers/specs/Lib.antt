@@ -1,0 +1,12 @@
+pub mod Range
+pub mod Nearest
+pub mod Laws
+pub mod Sums
+pub mod Values
+pub mod Fused
+pub mod Held
+pub mod Sides
+pub mod Binary32
+pub mod Modes
+pub mod Rightly
+pub mod Coding

@@ -1,0 +1,1 @@
+//! Building a register number and asking it.
