@@ -11,3 +11,4 @@ pub mod Rightness
 pub mod Orders
 pub mod Placing
 pub mod Standing
+pub mod Encodings

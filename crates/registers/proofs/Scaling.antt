@@ -1,7 +1,7 @@
 -- Register numbers as terms of a sum.
 use mathlib.Core.Path.{_≡_, sym, ap, _∙_}
 use mathlib.Core.Logic.{inl, inr}
-use Prim.Native.Nat.{ℕ, _+_, _*_, _^_, _≤_, _<_}
+use Prim.Native.Nat.{ℕ, _+_, _-_, _*_, _^_, _≤_, _<_}
 use native.Mathlib.Nat.{mul-le-mul, mul-assoc, mul-mul-mul-comm, zero-mul, mul-zero}
 use native.Mathlib.Omega.{arith}
 use lib.Pow.{pow-add}
@@ -34,3 +34,18 @@ product-fits u v w i a b f g = (
         absurd (omega (arith, i, ap (λ (x : ℕ). x * w) z, zero-mul w))
   ],
 )
+
+-- a significand of `long` digits moved to 30
+pub finite-size : (sig k long S : ℕ) → S * 2 ^ long ≡ sig * 2 ^ 30 → S * 2 ^ (k + long + (unit - 149 - 30)) ≡ sig * 2 ^ k * 2 ^ (bias - 149)
+finite-size sig k long S same =
+    ap (λ (x : ℕ). S * 2 ^ x) d ∙ ap (λ (x : ℕ). S * x) (pow-add 2 long (k + rest)) ∙ sym (mul-assoc S (2 ^ long) (2 ^ (k + rest))) ∙ ap (λ (x : ℕ). x * 2 ^ (k + rest)) same
+    ∙ mul-assoc sig (2 ^ 30) (2 ^ (k + rest)) ∙ ap (λ (x : ℕ). sig * x) (sym (pow-add 2 30 (k + rest)) ∙ ap (λ (x : ℕ). 2 ^ x) f ∙ pow-add 2 k (bias - 149)) ∙ sym (mul-assoc sig (2 ^ k) (2 ^ (bias - 149)))
+  where
+    rest : ℕ
+    rest = unit - 149 - 30
+
+    d : k + long + rest ≡ long + (k + rest)
+    d = omega arith
+
+    f : 30 + (k + rest) ≡ k + (bias - 149)
+    f = omega (arith, bias-is)

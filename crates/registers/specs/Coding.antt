@@ -60,8 +60,10 @@ denoted (Infinity s) = infinite s
 denoted (Zero s) = finite s 0
 denoted (finiteCase x) = finiteMeaning x
 
--- Decoding and encoding are inverse both ways.
-pub record Coding-inverse : Type 0 where
-  pub pattern-back : (p : ℕ) → p < 2 ^ 32 → isNan p ≡ false → encoding (meaning p) ≡ p
-  pub number-back : (x : Meaning) → Binary32-number x → meaning (encoding x) ≡ x
-  pub is-pattern : (x : Meaning) → Binary32-number x → encoding x < 2 ^ 32
+-- Decoding and encoding are inverse both ways: every pattern p but a NaN's comes back from what it stands for,
+abbrev pub Pattern-comes-back : ℕ → Meaning → Type 0
+Pattern-comes-back p stands = isNan p ≡ false → encoding stands ≡ p
+
+-- and every binary32 number comes back from its pattern p.
+abbrev pub Number-comes-back : Meaning → ℕ → Type 0
+Number-comes-back number p = Binary32-number number → meaning p ≡ number

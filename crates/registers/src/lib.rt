@@ -1,16 +1,16 @@
 //! Patterns of binary32, register numbers, the fused step and the one rounding to binary32.
 
+mod cut;
+mod exact;
+mod fit;
 pub mod limits;
 pub mod mode;
 pub mod pattern;
-pub mod register;
-mod exact;
-mod cut;
-mod sum;
-mod fit;
 mod place;
-pub mod step;
+pub mod register;
 pub mod round;
+pub mod step;
+mod sum;
 
 pub use mode::Mode;
 pub use mode::Rounded;

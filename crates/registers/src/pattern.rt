@@ -1,5 +1,7 @@
 //! Patterns of binary32 and what they stand for.
 
+pub mod codes;
+
 ghost use Prim.Native.Nat.{_^_, _<_, _≤_};
 
 /// A binary32 pattern.

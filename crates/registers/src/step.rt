@@ -13,7 +13,13 @@ ghost use Rattle.registers.specs.Laws.{Nearest-laws};
 ghost use Rattle.registers.specs.Values.{value};
 
 /// The step at a width that is not looked at.
-fn step_at(r: Register, choice: Choice, p: Register, q: Register, width: u32) -> Result<Register, Refusal>
+fn step_at(
+    r: Register,
+    choice: Choice,
+    p: Register,
+    q: Register,
+    width: u32,
+) -> Result<Register, Refusal>
     requires { ⌜ 0 < width ⌝ ∗ ⌜ width ≤ 30 ⌝ }
     ensures answer { λ z. ⌜ answered z ≡ fusedAt width choice (value r) (value p) (value q) ⌝ }
     ensures laws { λ _. ⌜ Nearest-laws ⌝ }

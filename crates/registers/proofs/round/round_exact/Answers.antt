@@ -24,8 +24,8 @@ returns c =
     let p : 0 < x .whole = omega arith in
     record {
       answer = λ n h.
-        let s : 0 < n = held-some (x .whole) (x .exponent) n (x .more) p h in
-        ap Some (c .to-pattern .ensures n h) ∙ sym (cond-false (eqb n 0) _ _ (ne-eqb n 0 (λ z. omega arith)));
+          let s : 0 < n = held-some (x .whole) (x .exponent) n (x .more) p h in
+          ap Some (c .to-pattern .ensures n h) ∙ sym (cond-false (eqb n 0) _ _ (ne-eqb n 0 (λ z. omega arith)));
       right = right-rounding;
       same-side = same-side;
     }

@@ -11,8 +11,8 @@ returns c =
     let s : x .negative ≡ fusedSign (c .args .choice) (value (c .args .r)) (value (c .args .p)) (value (c .args .q)) = c .to-width .ensures .sign ∙ c .exact-sum .ensures .sign in
     record {
       answer =
-        c .to-register .ensures
-        ∙ ap (λ (b : Bool). kept b (x .whole * 2 ^ x .exponent)) s
-        ∙ ap (λ (n : ℕ). kept (fusedSign (c .args .choice) (value (c .args .r)) (value (c .args .p)) (value (c .args .q))) n) (c .to-width .ensures .rounds _ (c .exact-sum .ensures .held));
+          c .to-register .ensures
+          ∙ ap (λ (b : Bool). kept b (x .whole * 2 ^ x .exponent)) s
+          ∙ ap (λ (n : ℕ). kept (fusedSign (c .args .choice) (value (c .args .r)) (value (c .args .p)) (value (c .args .q))) n) (c .to-width .ensures .rounds _ (c .exact-sum .ensures .held));
       laws = c .to-width .ensures .laws;
     }
