@@ -12,3 +12,8 @@ pub mod Orders
 pub mod Placing
 pub mod Standing
 pub mod Encodings
+pub mod Near
+pub mod Spacing
+pub mod Related
+pub mod Signs
+pub mod Granted

@@ -10,3 +10,4 @@ pub mod Binary32
 pub mod Modes
 pub mod Rightly
 pub mod Coding
+pub mod Lines
