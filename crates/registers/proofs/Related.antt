@@ -117,7 +117,7 @@ fused-line k w choice r p q z e = record { n = n; sum = sum; round = subst (Roun
     n : ℕ
     n = fusedSize choice r p q
 
-    near   : Rounds k n (nearest k n)
+    near : Rounds k n (nearest k n)
     near = rounds k n
 
     some : 1 ≤ k

@@ -43,7 +43,7 @@ inRange v = leb (30 + bias) (size v) && leb (size v) (30 + span + bias)
 
 -- a rounded magnitude of v squared units as a register number
 abbrev pub kept : Bool → ℕ → Result Value ℕ
-kept s v = cond (eqb v 0) (Ok (record { negative = false; units = 0 })) (cond (inRange v) (Ok (record { negative = s; units = v / 2 ^ bias })) (Err 7))
+kept s v = cond (eqb v 0) (Ok (record { negative = false; units = 0 })) (cond (inRange v) (Ok (record { negative = s; units = v / 2 ^ bias })) (Err (number Exponent)))
 
 -- the step at any width
 abbrev pub fusedAt : ℕ → Choice → Value → Value → Value → Result Value ℕ
@@ -51,4 +51,4 @@ fusedAt width choice r p q = kept (fusedSign choice r p q) (nearest width (fused
 
 -- the step: a width other than 24 or 30 is refused first
 abbrev pub fused : ℕ → Choice → Value → Value → Value → Result Value ℕ
-fused width choice r p q = cond (eqb width 24 || eqb width 30) (fusedAt width choice r p q) (Err 5)
+fused width choice r p q = cond (eqb width 24 || eqb width 30) (fusedAt width choice r p q) (Err (number Width))

@@ -146,7 +146,8 @@ fn whole_product(a: u128, b: u128) -> u128
     requires { ⌜ a < 2 ^ 30 ⌝ ∗ ⌜ b < 2 ^ 30 ⌝ }
     ensures { λ r. ⌜ r ≡ a * b ⌝ }
 {
-    a * b
+    let all_bits = a * b;
+    all_bits
 }
 
 /// The sign of a product of two numbers in the sum.

@@ -51,7 +51,8 @@ impl Pattern {
     pub fn bits(self) -> u32
         ensures { λ r. ⌜ r ≡ self .bits ⌝ }
     {
-        self.bits
+        let Pattern { bits: all } = self;
+        all
     }
 
     /// What it stands for. Every pattern but a NaN's comes back by `encode`.

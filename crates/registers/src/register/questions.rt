@@ -9,13 +9,28 @@ use crate::limits::UNIT;
 use crate::pattern::Finite;
 use crate::register::Number;
 use crate::register::Refusal;
+ghost use Prim.Native.Nat.{_-_, _*_, _^_, _<_, _≤_};
 ghost use mathlib.Core.Path.{_≡_};
 ghost use Rattle.std.specs.Options.{Cases as BySome};
 ghost use Rattle.registers.specs.Fused.{number as numberOf};
+ghost use Rattle.registers.specs.Range.{bias};
 ghost use Rattle.registers.specs.Values.{Buildable, Built, exponentOf, finiteValue, numberValue};
 
 /// What makes the stored exponent of a finite binary32 number out of its exponent and the length of its significand.
 const BINARY32_SHIFT: u32 = UNIT - 149 - 30;
+
+/// The number of `± significand · 2^exponent` units of `2^-149`.
+fn from_units(negative: bool, significand: u32, exponent: u32) -> Number
+    requires { ⌜ 0 < significand ⌝ ∗ ⌜ significand < 2 ^ 24 ⌝ ∗ ⌜ exponent ≤ 253 ⌝ }
+    ensures { λ r. ⌜ numberValue r ≡ record { negative = negative; units = significand * 2 ^ exponent * 2 ^ (bias - 149) } ⌝ }
+{
+    let long = length(significand as u128);
+    Number {
+        negative,
+        exponent: exponent + long + BINARY32_SHIFT,
+        significand: normal(significand as u128, long),
+    }
+}
 
 impl Number {
     /// The number `± significand · 2^(exponent - 29)`, or nothing where the exponent or the significand is out of range.
@@ -39,12 +54,7 @@ impl Number {
     pub fn from_finite(x: Finite) -> Number
         ensures { λ r. ⌜ numberValue r ≡ finiteValue x ⌝ }
     {
-        let long = length(x.significand as u128);
-        Number {
-            negative: x.negative,
-            exponent: x.exponent + long + BINARY32_SHIFT,
-            significand: normal(x.significand as u128, long),
-        }
+        from_units(x.negative, x.significand, x.exponent)
     }
 
     /// Whether it is below zero.
