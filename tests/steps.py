@@ -3,10 +3,11 @@
 
 usage: steps.py LIBRARY.so [CASES]     (tests/run builds the shared object)
 """
-import ctypes, random, sys
+import ctypes, os, random, sys
 from fractions import Fraction
 from reference import decode, exponent, round32, round_bits, two
 
+VECTORS = os.path.join(os.path.dirname(os.path.abspath(__file__)), "vectors.txt")
 ZERO, UNFIT = 1 << 62, 1 << 63
 LEAST, GREATEST = -65534, 65535
 
@@ -83,6 +84,24 @@ def roundings(lib, rng, count):
             sys.exit(f"rounding differs: r={r:08X} minus={minus} p={p:08X} q={q:08X} mode={mode}: {got:#x}, expected {want:#x}")
 
 
+def vectors(lib, path):
+    """The published fused multiply-adds of finite operands whose value is not zero."""
+    tried = 0
+    for line in open(path):
+        call, *words = line.split()
+        if call != "fuse":
+            continue
+        mode, (p, q, r, want) = int(words[0]), [int(w, 16) for w in words[1:5]]
+        got = lib.registers_round(r, 0, p, q, mode)
+        if got in (ZERO, UNFIT):
+            continue
+        flags = "--" + "".join(c if got >> k & 1 else "-" for c, k in (("O", 33), ("U", 34), ("X", 32)))
+        if (got & 0xFFFFFFFF, flags) != (want, words[5]):
+            sys.exit(f"vector differs: {line.strip()}: {got:#x}")
+        tried += 1
+    return tried
+
+
 def main():
     lib = ctypes.CDLL(sys.argv[1])
     count = int(sys.argv[2]) if len(sys.argv) > 2 else 20000
@@ -94,6 +113,7 @@ def main():
     steps(lib, rng, count)
     roundings(lib, rng, count)
     print(f"{count} fused steps and {count} roundings agree with exact fractions")
+    print(f"{vectors(lib, VECTORS)} published vectors agree")
 
 
 main()
