@@ -1,0 +1,13 @@
+pub mod Placing
+pub mod Tabulated
+pub mod Convergence
+pub mod Nonnegative
+pub mod Squared
+pub mod Cubed
+pub mod ReciprocalConvergence
+pub mod RootConvergence
+pub mod Grain
+pub mod Stepping
+pub mod Operands
+pub mod ReciprocalSteps
+pub mod RootSteps

@@ -1,0 +1,4 @@
+pub mod Seeds
+pub mod Fractions
+pub mod Entries
+pub mod Rounds
