@@ -43,6 +43,10 @@ underSign s u = record { pattern = record { bits = withSign s (u .pattern) }; in
 abbrev pub rounded : Mode → Bool → (ℕ → Ordering) → Rounded
 rounded mode s beside = underSign s (rounding (wayOf mode s) beside)
 
--- the exact value of a fused step rounded once to binary32; a value of zero is none to round
+-- the magnitude of the exact value of a fused step rounded once to binary32 under a sign; a value of zero is none to round
+abbrev pub magnitudeRounded : Mode → Bool → Choice → Value → Value → Value → Option Rounded
+magnitudeRounded mode s choice r p q = cond (eqb (fusedSize choice r p q) 0) None (Some (rounded mode s (besideWhole (fusedSize choice r p q))))
+
+-- the same under the value's own sign
 abbrev pub fusedRounded : Mode → Choice → Value → Value → Value → Option Rounded
-fusedRounded mode choice r p q = cond (eqb (fusedSize choice r p q) 0) None (Some (rounded mode (fusedSign choice r p q) (besideWhole (fusedSize choice r p q))))
+fusedRounded mode choice r p q = magnitudeRounded mode (fusedSign choice r p q) choice r p q

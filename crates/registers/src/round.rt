@@ -14,7 +14,7 @@ ghost use mathlib.Core.Path.{_≡_};
 ghost use Rattle.std.specs.declared.option.Option.the-variants.{None as NoneCase, Some as SomeCase};
 ghost use Rattle.registers.specs.Binary32.{besideWhole};
 ghost use Rattle.registers.specs.Held.{Holds};
-ghost use Rattle.registers.specs.Modes.{fusedRounded, rounded};
+ghost use Rattle.registers.specs.Modes.{fusedRounded, magnitudeRounded, rounded};
 ghost use Rattle.registers.specs.Rightly.{Right-rounding, Same-side-same-rounding};
 ghost use Rattle.registers.specs.Values.{value};
 
@@ -45,4 +45,28 @@ pub fn round_fused(
 {
     let exact = exact_sum(r, choice, p, q);
     round_exact(exact, mode)
+}
+
+/// The magnitude of `r + p·q` or `r - p·q`, formed exactly and rounded once, straight to binary32, in a mode, under a sign that the caller gives.
+/// Nothing where the value is zero.
+pub fn round_magnitude(
+    r: Register,
+    choice: Choice,
+    p: Register,
+    q: Register,
+    negative: bool,
+    mode: Mode,
+) -> Option<Rounded>
+    ensures answer { λ z. ⌜ z ≡ magnitudeRounded mode negative choice (value r) (value p) (value q) ⌝ }
+    ensures right { λ _. ⌜ Right-rounding ⌝ }
+    ensures same_side { λ _. ⌜ Same-side-same-rounding ⌝ }
+{
+    let exact = exact_sum(r, choice, p, q);
+    let magnitude = Exact {
+        negative,
+        whole: exact.whole,
+        exponent: exact.exponent,
+        more: exact.more,
+    };
+    round_exact(magnitude, mode)
 }
