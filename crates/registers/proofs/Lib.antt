@@ -11,6 +11,7 @@ pub mod Rightness
 pub mod Orders
 pub mod Placing
 pub mod Standing
+pub mod Formed
 pub mod Encodings
 pub mod Near
 pub mod Spacing

@@ -67,3 +67,9 @@ Pattern-comes-back p stands = isNan p ≡ false → encoding stands ≡ p
 -- and every binary32 number comes back from its pattern p.
 abbrev pub Number-comes-back : Meaning → ℕ → Type 0
 Number-comes-back number p = Binary32-number number → meaning p ≡ number
+
+-- a significand and an exponent that make a finite number other than zero
+pub record Writable (significand exponent : ℕ) : Type 0 where
+  pub some : 0 < significand
+  pub few : significand < 2 ^ 24
+  pub low : exponent ≤ 253

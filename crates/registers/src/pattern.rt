@@ -1,6 +1,7 @@
 //! Patterns of binary32 and what they stand for.
 
 pub mod codes;
+pub mod parts;
 
 ghost use Prim.Native.Nat.{_^_, _<_, _≤_};
 
