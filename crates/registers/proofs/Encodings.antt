@@ -1,5 +1,5 @@
 -- The pattern of a magnitude of at most 24 bits, and back.
-use mathlib.Core.Path.{_≡_, refl, sym, ap, _∙_}
+use mathlib.Core.Path.{_≡_, refl, sym, ap, subst, _∙_}
 use mathlib.Core.Logic.{_⊎_, inl, inr}
 use mathlib.Core.Bool.{Bool, true, false, cond}
 use Prim.Native.Nat.{ℕ, _+_, _-_, _*_, _/_, _%_, _^_, _≤_, _<_}
@@ -83,6 +83,12 @@ decode-encode v e n =
 encoded-small : (v e : ℕ) → Formed v e → e ≤ 253 → encoded v < 0x7F800000
 encoded-small v e n h = omega (arith, ap encoded (n .is) ∙ encoded-at (n .k) (n .M) (n .few) (n .full), n .few, n .within)
 
+-- a binary32 number's pattern stands for it
+pub encoded-number : (m e v : ℕ) → v ≡ m * 2 ^ e → m < 2 ^ 24 → e ≤ 253 → (magnitude (encoded v) ≡ v) × (encoded v < 0x7F800000)
+encoded-number m e v is few low =
+    let f : Formed v e = subst (λ (x : ℕ). Formed x e) (sym is) (formed m e few) in
+    (decode-encode v e f, encoded-small v e f low)
+
 pub encode-decode : (p : ℕ) → encoded (magnitude p) ≡ p
 encode-decode p = go (v .0) (v .1) (v .2) (v .3) (v .4)
   where
@@ -97,11 +103,11 @@ encode-decode p = go (v .0) (v .1) (v .2) (v .3) (v .4)
 pub sign-back : (p : ℕ) → p < 2 ^ 32 → withSign (isNegative p) (unsigned p) ≡ p
 sign-back p h = elim (cases-lt p (2 ^ 31)) [ inl l ↦ rw (lt-leb (2 ^ 31) p l) (omega arith) | inr g ↦ rw (le-leb (2 ^ 31) p g) (omega arith) ]
 
-sign-of : (s : Bool) (m : ℕ) → m < 2 ^ 31 → isNegative (withSign s m) ≡ s
+pub sign-of : (s : Bool) (m : ℕ) → m < 2 ^ 31 → isNegative (withSign s m) ≡ s
 sign-of true m h = le-leb (2 ^ 31) (2 ^ 31 + m) (omega arith)
 sign-of false m h = lt-leb (2 ^ 31) m h
 
-unsigned-of : (s : Bool) (m : ℕ) → m < 2 ^ 31 → unsigned (withSign s m) ≡ m
+pub unsigned-of : (s : Bool) (m : ℕ) → m < 2 ^ 31 → unsigned (withSign s m) ≡ m
 unsigned-of true m h = omega arith
 unsigned-of false m h = omega arith
 
