@@ -45,3 +45,21 @@ pub fn decimal(heap: Global, x: Register) -> Result<String, AllocError> {
         format!(heap, "{whole}.{part:09}")
     }
 }
+
+/// A register number with nine decimals, by a power of two where it is far from 1.
+pub fn scaled(heap: Global, x: Register) -> Result<String, AllocError> {
+    let Register::Nonzero(number) = x else {
+        return decimal(heap, x);
+    };
+    let exponent = number.exponent();
+    if exponent > -10 && exponent < 24 {
+        return decimal(heap, x);
+    }
+    match Number::new(number.is_negative(), 0, number.significand()) {
+        Some(one) => {
+            let digits = decimal(heap, Register::Nonzero(one))?;
+            format!(heap, "{digits} * 2^{exponent}")
+        }
+        None => decimal(heap, x),
+    }
+}

@@ -1,0 +1,27 @@
+-- A value c corrected by its residual: c + x·h, where x is what r leaves over p, rounded, with its sign.
+use Prim.Native.Nat.{ℕ, zero, _+_, _*_, _≤_, _<_}
+use native.Mathlib.Omega.{arith}
+use mathlib.Core.Bool.{Bool, true, false}
+use mathlib.Core.Logic.{_⊎_, inl, inr}
+use mathlib.Core.Path.{_≡_, refl, sym}
+use Rattle.registers.specs.Lines.{Sum}
+use Rattle.registers.proofs.Signs.{true≢false}
+
+-- r - p is n, up or down, and N is c + x·h with x on the same side
+abbrev pub Correction : ℕ → ℕ → ℕ → ℕ → ℕ → ℕ → ℕ → ℕ → Type 0
+Correction W r p c h x n N = ((n + p ≡ r) × (N ≡ c * W + x * h)) ⊎ ((n + r ≡ p) × (N + x * h ≡ c * W))
+
+-- what is left over p, where r is below it
+pub left-over : (r p n : ℕ) (s : Bool) → s ≡ true → Sum false r true p s n → n + r ≡ p
+left-over r p n true h e = omega (arith, e)
+left-over r p n false h e = absurd (true≢false (sym h))
+
+-- c + x, with x of a sign, is above zero where c outweighs x
+pub sum-plus : (c x : ℕ) (s t : Bool) (N : ℕ) → zero < c → (s ≡ true → x < c) → Sum false c s x t N → t ≡ false
+sum-plus c x s false N some less e = refl
+sum-plus c x false true N some less e = absurd (omega (arith, e, some))
+sum-plus c x true true N some less e = absurd (omega (arith, e, less refl))
+
+pub correction : (W r p c h : ℕ) (s : Bool) (x n N : ℕ) → Sum false r true p s n → Sum false (c * W) s (x * h) false N → Correction W r p c h x n N
+correction W r p c h false x n N e f = inl (omega (arith, e), omega (arith, f))
+correction W r p c h true x n N e f = inr (omega (arith, e), omega (arith, f))
