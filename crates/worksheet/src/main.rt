@@ -1,7 +1,6 @@
 //! Prints the work sheet of a quotient or of a root over one of the delivered sources, or the refinement of a reciprocal.
 
 mod decimal;
-mod hex;
 mod refine;
 mod request;
 mod show;

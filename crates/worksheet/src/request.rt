@@ -1,6 +1,5 @@
 //! What the program is asked for.
 
-use crate::hex::pattern;
 use crate::refine::line_constants;
 use crate::refine::refine;
 use crate::show::page;
@@ -18,6 +17,7 @@ use sources::line::LineSource;
 use sources::table::TableSeeds;
 use sources::table::TableSource;
 use std::alloc::Global;
+use words::hex::pattern;
 ghost use lib.IntN.{pos};
 ghost use mathlib.Core.Bool.{false};
 ghost use mathlib.Core.Path.{_≡_};
@@ -25,7 +25,7 @@ ghost use Rattle.std.specs.Vec.{made};
 ghost use Rattle.std.specs.declared.option.Option.the-variants.{Some};
 ghost use Rattle.registers.specs.Coding.{finiteMeaning, meaning};
 ghost use Rattle.registers.specs.Values.{Built};
-ghost use Rattle.worksheet.specs.Hexadecimal.{hexOf};
+ghost use Rattle.words.specs.Hexadecimal.{hexOf};
 
 /// A positive finite number other than zero whose reciprocal is refined.
 #[derive(Clone, Copy)]

@@ -5,7 +5,7 @@ ghost use Prim.Native.Nat.{_<_};
 ghost use mathlib.Core.Path.{_≡_};
 ghost use Rattle.std.specs.Options.{Cases as BySome};
 ghost use Rattle.std.specs.declared.option.Option.the-variants.{None};
-ghost use Rattle.worksheet.specs.Hexadecimal.{bitsOf, digitOf, hexOf};
+ghost use Rattle.words.specs.Hexadecimal.{bitsOf, digitOf, hexOf};
 
 /// The value of a hexadecimal digit of either case.
 fn digit(byte: u8) -> Option<u32>

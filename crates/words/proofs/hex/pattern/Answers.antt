@@ -9,9 +9,9 @@ use Rattle.std.proofs.shelf.Lists.{drop-all}
 use Rattle.std.proofs.shelf.Tests.{eq-eqb, cond-true}
 use Rattle.std.specs.declared.option.Option.{Option}
 use Rattle.std.specs.declared.option.Option.the-variants.{None, Some}
-use Rattle.worksheet.specs.Hexadecimal.{goOn, hexOf}
-use Rattle.worksheet.proofs.Digits.{digit-more, digit-none, small-more, small-fits}
-use Rattle.worksheet.proofs.hex.pattern.Needs as need
+use Rattle.words.specs.Hexadecimal.{goOn, hexOf}
+use Rattle.words.proofs.Digits.{digit-more, digit-none, small-more, small-fits}
+use Rattle.words.proofs.hex.pattern.Needs as need
 
 -- at eight digits all hangs on the digits
 eight : (cs : List ℕ) (o : Option ℕ) → length cs ≡ 8 → goOn 0 cs ≡ o → o ≡ hexOf cs

@@ -10,7 +10,7 @@ use lib.Pow.{pow-add, pow-mono}
 use lib.Seq.{drop-cons}
 use Rattle.std.specs.declared.option.Option.{Option}
 use Rattle.std.specs.declared.option.Option.the-variants.{None, Some}
-use Rattle.worksheet.specs.Hexadecimal.{digitOf, goOn, next}
+use Rattle.words.specs.Hexadecimal.{digitOf, goOn, next}
 
 -- one more digit of the list, whatever it stands for
 step : (n i : ℕ) (cs : List ℕ) → i < length cs → goOn n (drop i cs) ≡ next (digitOf (getD cs i 0)) (λ d. goOn (n * 16 + d) (drop (i + 1) cs))

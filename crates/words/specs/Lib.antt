@@ -1,0 +1,3 @@
+pub mod Hexadecimal
+pub mod Blanks
+pub mod Decimal
