@@ -1,3 +1,4 @@
+pub mod Reading
 pub mod Hexadecimal
-pub mod Blanks
 pub mod Decimal
+pub mod Blanks

@@ -1,11 +1,11 @@
 //! Patterns written as eight hexadecimal digits.
 
 use registers::Pattern;
-ghost use Prim.Native.Nat.{_<_};
+ghost use Prim.Native.Nat.{_+_, _*_, _^_, _<_};
 ghost use mathlib.Core.Path.{_≡_};
 ghost use Rattle.std.specs.Options.{Cases as BySome};
 ghost use Rattle.std.specs.declared.option.Option.the-variants.{None};
-ghost use Rattle.words.specs.Hexadecimal.{bitsOf, digitOf, hexOf};
+ghost use Rattle.words.specs.Hexadecimal.{bitsOf, digitOf, hexMore, hexOf};
 
 /// The value of a hexadecimal digit of either case.
 fn digit(byte: u8) -> Option<u32>
@@ -20,6 +20,18 @@ fn digit(byte: u8) -> Option<u32>
     }
 }
 
+/// One digit more after those that made `bits`.
+fn more(bits: u32, byte: u8) -> Option<u32>
+    requires { ⌜ bits < 2 ^ 28 ⌝ }
+    ensures value { λ r. ⌜ r ≡ hexMore bits byte ⌝ }
+    ensures small { λ r. ⌜ BySome r (None ≡ hexMore bits byte) (λ m. m < bits * 16 + 16) ⌝ }
+{
+    match digit(byte) {
+        Some(d) => Some(bits * 16 + d),
+        None => None,
+    }
+}
+
 /// The pattern that a word of eight hexadecimal digits writes, and none for any other word.
 pub fn pattern(word: &[u8]) -> Option<Pattern>
     ensures { λ r. ⌜ bitsOf r ≡ hexOf (now (word .entry)) ⌝ }
@@ -29,10 +41,10 @@ pub fn pattern(word: &[u8]) -> Option<Pattern>
     }
     let mut bits = 0u32;
     for byte in word {
-        let Some(d) = digit(*byte) else {
+        let Some(m) = more(bits, *byte) else {
             return None;
         };
-        bits = bits * 16 + d;
+        bits = m;
     }
     Some(Pattern::from_bits(bits))
 }

@@ -1,17 +1,37 @@
 //! Whole numbers in base ten.
 
+ghost use Prim.Native.Nat.{_+_, _<_};
+ghost use lib.ListN.{length};
+ghost use mathlib.Core.Path.{_≡_};
+ghost use Rattle.words.specs.Decimal.{tenMore, wholeOf};
+
+/// One digit more after those that made `n`; nothing where the byte is no digit or the number does not fit 32 bits.
+fn more(n: u32, byte: u8) -> Option<u32>
+    ensures { λ r. ⌜ r ≡ tenMore n byte ⌝ }
+{
+    if byte < b'0' || byte > b'9' {
+        return None;
+    }
+    let m = n as u64 * 10 + (byte - b'0') as u64;
+    if m < 0x1_0000_0000 {
+        return Some(m as u32);
+    }
+    None
+}
+
 /// The unsigned number that digits write; nothing where there is none, another byte, or where it does not fit 32 bits.
-pub fn unsigned(word: &[u8]) -> Option<u32> {
+pub fn unsigned(word: &[u8]) -> Option<u32>
+    ensures { λ r. ⌜ r ≡ wholeOf (now (word .entry)) ⌝ }
+{
     if word.is_empty() {
         return None;
     }
     let mut n = 0u32;
     for byte in word {
-        let digit = match *byte {
-            b'0'..=b'9' => (*byte - b'0') as u32,
-            _ => return None,
+        let Some(m) = more(n, *byte) else {
+            return None;
         };
-        n = n.checked_mul(10)?.checked_add(digit)?;
+        n = m;
     }
     Some(n)
 }
