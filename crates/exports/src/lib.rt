@@ -1,5 +1,7 @@
 //! The library's functions as C calls them, for tests beside other implementations.
 
+mod calls;
+
 use registers::Choice;
 use registers::Datum;
 use registers::Mode;

@@ -1,9 +1,9 @@
 -- A finite number as a register number has 24 significant bits, so that the last six of its significand are zero; what its significand's first 24 bits and its exponent make.
 use Prim.Native.Nat.{ℕ, zero, _+_, _-_, _*_, _/_, _^_, _≤_, _<_}
-use native.Mathlib.Nat.{mul-le-mul, mul-le-mul-right, mul-pos, mul-assoc, eq-of-mul-eq-mul-right}
+use native.Mathlib.Nat.{mul-le-mul-right, mul-assoc, eq-of-mul-eq-mul-right}
 use native.Mathlib.Omega.{arith}
 use mathlib.Core.Path.{_≡_, sym, ap, _∙_}
-use lib.Pow.{pow-pos, pow-add, pow-mono}
+use lib.Pow.{pow-pos, pow-add}
 use Rattle.registers.specs.Range.{bias, bias-is, lowest, unit}
 use Rattle.registers.proofs.Granted.{below-of}
 use Rattle.registers.proofs.Spacing.{raise}

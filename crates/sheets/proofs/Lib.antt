@@ -1,4 +1,5 @@
 pub mod Side
+pub mod Shape
 pub mod Correction
 pub mod Inverse
 pub mod QuotientError
@@ -26,3 +27,4 @@ pub mod Starting
 pub mod QuotientWorked
 pub mod RootChain
 pub mod RootWorked
+mod Examples

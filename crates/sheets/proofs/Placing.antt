@@ -1,19 +1,20 @@
 -- An operand as a significand of 24 bits and an exponent, in register units; and a seed brought to it.
-use Prim.Native.Nat.{ℕ, zero, suc, _+_, _-_, _*_, _/_, _%_, _^_, _≤_, _<_}
+use Prim.Native.Nat.{ℕ, _+_, _-_, _*_, _/_, _%_, _^_, _≤_, _<_}
 use lib.Dec.{eqb}
-use mathlib.Core.Bool.{Bool, true, false, cond}
-use mathlib.Core.Logic.{_⊎_, inl, inr}
+use mathlib.Core.Logic.{inl, inr}
 use Rattle.std.proofs.shelf.Tests.{cases-bool, cases-order, eqb-true, eqb-false}
-use native.Mathlib.Nat.{mul-le-mul, mul-le-mul-right, mul-le-mul-left, mul-pos, mul-assoc, le-of-mul-le-mul-right}
+use native.Mathlib.Nat.{mul-le-mul, mul-le-mul-right, mul-le-mul-left, mul-assoc, le-of-mul-le-mul-right}
 use native.Mathlib.Omega.{arith}
-use mathlib.Core.Path.{_≡_, refl, sym, ap, subst, _∙_}
+use mathlib.Core.Path.{_≡_, refl, sym, ap, _∙_}
 use lib.Pow.{pow-pos, pow-add, pow-mono}
 use Rattle.registers.specs.Laws.{Bits}
 use Rattle.registers.specs.Range.{bias, bias-is, unit}
+use Rattle.registers.specs.Values.{Value}
 use Rattle.registers.proofs.Granted.{below-of}
-use Rattle.sources.specs.Seeds.{IsRadicand, IsSignificand, ReciprocalSeed, RootSeed}
+use Rattle.sources.specs.Seeds.{IsRadicand, IsSignificand, ReciprocalSeed, RootSeed, plain}
 use Rattle.sheets.specs.Operands.{radicandOf}
 use Rattle.sheets.proofs.RootNear.{sq-le}
+use Rattle.sheets.proofs.Shape.{Shape}
 
 -- a magnitude of n units of 2 ^ -149 is a significand times 2 ^ (exponent - 172)
 pub record Decoded (n : ℕ) : Type 0 where
@@ -50,6 +51,9 @@ module _ (n : ℕ) (o : Decoded n) where
   pub product-place : n * 2 ^ (bias - 149) * 2 ^ bias ≡ o .significand * 2 ^ (o .exponent + (bias - 172) + bias)
   product-place = ap (λ t. t * 2 ^ bias) placed-units ∙ mul-assoc (o .significand) (2 ^ (o .exponent + (bias - 172))) (2 ^ bias) ∙ ap (λ t. o .significand * t) (sym (pow-add 2 (o .exponent + (bias - 172)) bias))
 
+  abbrev pub shape : Shape (2 ^ bias) (n * 2 ^ (bias - 149))
+  shape = record { w = bias; significand = o .significand; exponent = o .exponent + (bias - 172) + bias; whole = refl; is = product-place; least = o .range .least; most = o .range .most }
+
   pub least : 2 ^ bias ≤ n * 2 ^ (bias - 149) * 2 ^ 149
   least = omega (arith, full, at-base, mul-le-mul-right (2 ^ (bias - 172)) (mul-le-mul (o .range .least) (pow-pos (o .exponent))))
 
@@ -78,10 +82,10 @@ pub held-is : (n B k : ℕ) → B * 2 ^ k ≡ n * 2 ^ 23 → B * 2 ^ k * 2 ^ (bi
 held-is n B k e = omega (arith, ap (λ t. t * 2 ^ (bias - 172)) e, ap (λ t. n * t) raised)
 
 -- a seed is of moderate size
-pub reciprocal-moderate : (B y : ℕ) → IsSignificand B → ReciprocalSeed 400 B y → (2 ^ bias ≤ y * 2 ^ 150) × (y ≤ 2 ^ bias * 2 ^ 150)
-reciprocal-moderate B y r c = (
-  omega (arith, c .least, mul-le-mul-left {m = B} {n = 2 ^ 24} y (omega (arith, r .most))),
-  omega (arith, c .most, mul-le-mul-left y (r .least)),
+pub reciprocal-moderate : (B y : ℕ) (v : Value) → IsSignificand B → ReciprocalSeed 400 B y → v ≡ plain y → (2 ^ bias ≤ v .units * 2 ^ 150) × (v .units ≤ 2 ^ bias * 2 ^ 150)
+reciprocal-moderate B y v r c e = (
+  omega (arith, ap (λ t. t .units) e, c .least, mul-le-mul-left {m = B} {n = 2 ^ 24} y (omega (arith, r .most))),
+  omega (arith, ap (λ t. t .units) e, c .most, mul-le-mul-left y (r .least)),
 )
 
 -- ---- the seed of a root
@@ -135,8 +139,8 @@ root-close n T j z y0 c e f = (
     scaled = by (2 ^ j) (2 ^ (bias - 149)) (2 ^ bias) (ap (λ t. T * t) (sym twofold) ∙ e) f wide
 
 -- a seed is of moderate size
-pub root-moderate : (T z : ℕ) → IsRadicand T → RootSeed 400 T z → (2 ^ bias ≤ z * 2 ^ 150) × (z ≤ 2 ^ bias * 2 ^ 150)
-root-moderate T z r c = (omega (arith, low), omega (arith, high))
+pub root-moderate : (T z : ℕ) (v : Value) → IsRadicand T → RootSeed 400 T z → v ≡ plain z → (2 ^ bias ≤ v .units * 2 ^ 150) × (v .units ≤ 2 ^ bias * 2 ^ 150)
+root-moderate T z v r c e = (omega (arith, ap (λ t. t .units) e, low), omega (arith, ap (λ t. t .units) e, high))
   where
     low : 2 ^ bias ≤ 3 * z
     low = sq-le (2 ^ bias) (3 * z) (omega (arith, c .least, mul-le-mul-left {m = T} {n = 2 ^ 25} (z * z) (omega (arith, r .most))))

@@ -1,11 +1,11 @@
 -- The steps of a quotient's sheet one after the other: none is refused, every line is of moderate size, and the closing value lies to every number of at most 25 bits as the exact quotient does.
 -- Each section takes the next line with its equation.
-use Prim.Native.Nat.{ℕ, zero, suc, _+_, _-_, _*_, _^_, _≤_, _<_}
-use native.Mathlib.Nat.{mul-le-mul-right, mul-le-mul-left, mul-pos, mul-assoc, mul-zero, zero-mul}
+use Prim.Native.Nat.{ℕ, zero, _+_, _-_, _*_, _^_, _≤_, _<_}
+use native.Mathlib.Nat.{mul-le-mul-right, mul-le-mul-left, mul-pos, mul-zero, zero-mul}
 use native.Mathlib.Omega.{arith}
 use mathlib.Core.Bool.{Bool, true, false}
-use mathlib.Core.Logic.{_⊎_, inl, inr}
-use mathlib.Core.Path.{_≡_, refl, sym, ap, subst, _∙_}
+use mathlib.Core.Logic.{inl, inr}
+use mathlib.Core.Path.{_≡_, refl, ap, subst, _∙_}
 use lib.Pow.{pow-pos, pow-add}
 use Rattle.std.specs.declared.result.Result.the-variants.{Ok}
 use Rattle.std.specs.Results.{isOk}
@@ -14,7 +14,7 @@ use Rattle.registers.specs.Binary32.{besideWhole}
 use Rattle.registers.specs.Fused.{fused, fusedSign, fusedSize}
 use Rattle.registers.specs.Laws.{Bits}
 use Rattle.registers.specs.Lines.{Sum}
-use Rattle.registers.specs.Range.{bias, bias-is, unit}
+use Rattle.registers.specs.Range.{bias, bias-is}
 use Rattle.registers.specs.Values.{Value}
 use Rattle.registers.proofs.Granted.{Sized}
 use Rattle.registers.proofs.Near.{Near}
@@ -22,10 +22,10 @@ use Rattle.registers.proofs.Signs.{Line, upright, upright-sign}
 use Rattle.registers.proofs.Spacing.{Rounded, order}
 use Rattle.sources.specs.Seeds.{plain}
 use Rattle.sheets.specs.Beside.{Same-side, besideQuotient}
-use Rattle.sheets.specs.Operands.{Moderate, held, one}
+use Rattle.sheets.specs.Operands.{held, one}
 use Rattle.sheets.specs.Quotients.{Quotient-facts}
-use Rattle.sheets.proofs.Inverse.{e0-small, e1-small, grown-plus, inverse}
-use Rattle.sheets.proofs.Placing.{Decoded, placed-units, product-place, least, most, units-bits}
+use Rattle.sheets.proofs.Inverse.{Close, e0-small, e1-small, grown-plus, inverse}
+use Rattle.sheets.proofs.Placing.{Decoded, placed-units, shape, least, most, units-bits}
 use Rattle.sheets.proofs.QuotientEnd as End
 use Rattle.sheets.proofs.QuotientError.{hi-bq}
 use Rattle.sheets.proofs.Scales.{quotient-beside}
@@ -49,6 +49,9 @@ module _ (a b : ℕ) (y0 : Value) (o : Start a b y0) where
   some-y0 : zero < y0 .units
   some-y0 = elim (order (y0 .units) zero) [ inl h ↦ absurd (omega (arith, o .close-least, mul-pos pos pos, mul-le-mul-left (held b .units) h)) | inr h ↦ h ]
 
+  close : Close (2 ^ bias) (held b .units) (y0 .units)
+  close = record { one = pos; some = some-y0; least = o .close-least; most = o .close-most }
+
   one-bits : Bits 54 (2 ^ bias * 2 ^ bias * (2 ^ bias * 2 ^ bias))
   one-bits = subst (Bits 54) (pow-add 2 (bias + bias) (bias + bias) ∙ ap (λ t. t * t) (pow-add 2 bias bias)) (power-bits 54 (bias + bias + (bias + bias)) (omega arith))
 
@@ -66,7 +69,7 @@ module _ (a b : ℕ) (y0 : Value) (o : Start a b y0) where
     l0 = line-at 30 wide Minus one (held b) y0 e0 false true refl (both-plus false (y0 .negative) refl (o .y0-plus)) e0-is
 
     small-0 : 399 * e0 .units ≤ 2 ^ bias
-    small-0 = e0-small (2 ^ bias) (held b .units) (y0 .units) pos some-y0 (o .close-least) (o .close-most) (e0 .negative) (e0 .units) l0
+    small-0 = e0-small close l0
 
     e1-size : (s : Bool) (n : ℕ) → Sum (e0 .negative) (e0 .units * 2 ^ bias) false (e0 .units * e0 .units) s n → Sized (2 ^ bias) 56 n
     e1-size s n e = square-size (2 ^ bias) pos (l0 .n) (e0 .units) (e0 .negative) s n (e0-size _ _ (l0 .sum)) (l0 .line .near) small-0 e
@@ -79,7 +82,7 @@ module _ (a b : ℕ) (y0 : Value) (o : Start a b y0) where
       l1 = line-at 30 wide Plus e0 e0 e0 e1 (e0 .negative) false refl (with-itself (e0 .negative)) e1-is
 
       small-1 : 2 * e1 .units ≤ 2 ^ bias
-      small-1 = e1-small (2 ^ bias) (held b .units) (y0 .units) pos some-y0 (o .close-least) (o .close-most) (e0 .negative) (e0 .units) l0 (e1 .negative) (e1 .units) l1
+      small-1 = e1-small close l0 l1
 
       y1-size : (s : Bool) (n : ℕ) → Sum false (y0 .units * 2 ^ bias) (e1 .negative) (e1 .units * y0 .units) s n → Sized (2 ^ bias) 151 n
       y1-size = grown-size (2 ^ bias) pos 150 (y0 .units) (e1 .units) small-1 (y0-range .0) (y0-range .1) (e1 .negative)
@@ -92,10 +95,10 @@ module _ (a b : ℕ) (y0 : Value) (o : Start a b y0) where
         l2 = line-at 30 wide Plus y0 e1 y0 y1 false (e1 .negative) (o .y0-plus) (with-plus (e1 .negative) (y0 .negative) (o .y0-plus)) y1-is
 
         plus-y1 : y1 .negative ≡ false
-        plus-y1 = grown-plus (2 ^ bias) (y0 .units) (e1 .units) pos some-y0 small-1 (e1 .negative) (y1 .negative) (y1 .units) l2
+        plus-y1 = grown-plus (e1 .units) pos some-y0 small-1 l2
 
         inv : Near 50000000 (2 ^ bias * 2 ^ bias) (held b .units * y1 .units)
-        inv = inverse (2 ^ bias) (held b .units) (y0 .units) pos some-y0 (o .close-least) (o .close-most) (e0 .negative) (e0 .units) l0 (e1 .negative) (e1 .units) l1 (y1 .negative) (y1 .units) l2
+        inv = inverse close l0 l1 l2
 
         y1-range : (2 ^ bias ≤ y1 .units * 2 ^ 150) × (y1 .units ≤ 2 ^ bias * 2 ^ 150)
         y1-range = reciprocal-range (2 ^ bias) pos (held b .units) (y1 .units) (least b (o .divisor)) (most b (o .divisor)) (omega (arith, inv .1)) (omega (arith, inv .0))
@@ -135,8 +138,8 @@ module _ (a b : ℕ) (y0 : Value) (o : Start a b y0) where
             l4 : Line 30 (2 ^ bias) false (held a .units) true (held b .units * q1 .units) (r1 .negative) (r1 .units)
             l4 = line-at 30 wide Minus (held a) (held b) q1 r1 false true refl (both-plus false (q1 .negative) refl plus-q1) r1-is
 
-            room : o .divisor .exponent + (bias - 172) + 25 ≤ o .dividend .exponent + (bias - 172) + bias
-            room = omega (arith, bias-is, o .divisor .few)
+            fraction : End.Fraction (2 ^ bias) (held a .units) (held b .units)
+            fraction = record { dividend = shape a (o .dividend); significand = o .divisor .significand; exponent = o .divisor .exponent + (bias - 172); is = placed-units b (o .divisor); least = o .divisor .range .least; most = o .divisor .range .most; room = omega (arith, bias-is, o .divisor .few) }
 
             sum : Sum false (q1 .units * 2 ^ bias) (r1 .negative) (r1 .units * y1 .units) (fusedSign Plus q1 r1 y1) (fusedSize Plus q1 r1 y1)
             sum = exact-sum Plus q1 r1 y1 false (r1 .negative) plus-q1 (with-plus (r1 .negative) (y1 .negative) plus-y1)
@@ -151,12 +154,12 @@ module _ (a b : ℕ) (y0 : Value) (o : Start a b y0) where
                 moderate 24 299 (omega arith) (omega arith) (l3 .n) q1 (l3 .line .near) (q1-size _ _ (l3 .sum)),
                 moderate 30 197 (omega arith) (omega arith) (l4 .n) r1 (l4 .line .near) (r1-size _ _ (l4 .sum)),
               );
-              r1-exact = End.r1-exact bias (2 ^ bias) (held a .units) (held b .units) (y1 .units) (q1 .units) (o .dividend .significand) (o .dividend .exponent + (bias - 172) + bias) (o .divisor .significand) (o .divisor .exponent + (bias - 172)) refl (product-place a (o .dividend)) (o .dividend .range .least) (o .dividend .range .most) (placed-units b (o .divisor)) (o .divisor .range .least) (o .divisor .range .most) room inv line-q1 (r1 .negative) (r1 .units) l4;
-              plus = End.closing-plus bias (2 ^ bias) (held a .units) (held b .units) (y1 .units) (q1 .units) (o .dividend .significand) (o .dividend .exponent + (bias - 172) + bias) (o .divisor .significand) (o .divisor .exponent + (bias - 172)) refl (product-place a (o .dividend)) (o .dividend .range .least) (o .dividend .range .most) (placed-units b (o .divisor)) (o .divisor .range .least) (o .divisor .range .most) room inv line-q1 (r1 .negative) (r1 .units) l4 (fusedSign Plus q1 r1 y1) (fusedSize Plus q1 r1 y1) sum;
+              r1-exact = End.r1-exact (y1 .units) (q1 .units) fraction inv line-q1 l4;
+              plus = End.closing-plus (y1 .units) (q1 .units) fraction inv line-q1 l4 _ _ sum;
             }
 
             side : (G : ℕ) → Bits 25 G → Side (held a .units * 2 ^ bias) (held b .units * G) (fusedSize Plus q1 r1 y1) (G * 2 ^ bias)
-            side = End.closing-side bias (2 ^ bias) (held a .units) (held b .units) (y1 .units) (q1 .units) (o .dividend .significand) (o .dividend .exponent + (bias - 172) + bias) (o .divisor .significand) (o .divisor .exponent + (bias - 172)) refl (product-place a (o .dividend)) (o .dividend .range .least) (o .dividend .range .most) (placed-units b (o .divisor)) (o .divisor .range .least) (o .divisor .range .most) room inv line-q1 (r1 .negative) (r1 .units) l4 (fusedSign Plus q1 r1 y1) (fusedSize Plus q1 r1 y1) sum
+            side = End.closing-side (y1 .units) (q1 .units) fraction inv line-q1 l4 _ _ sum
 
             -- the closing value is above zero
             pub closing-some : zero < fusedSize Plus q1 r1 y1

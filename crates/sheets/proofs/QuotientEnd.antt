@@ -1,48 +1,52 @@
 -- The end of a quotient's lines: the residual r1 is exact, and the closing value q1 + r1·y1 is above zero and lies to every number of at most 25 bits as a / b does.
--- One is W = 2 ^ w; a is A units, A′·2 ^ α of W², and b is B = B′·2 ^ β units.
+-- One is W; a is A units and b is B.
 use Prim.Native.Nat.{ℕ, zero, _+_, _*_, _^_, _≤_, _<_}
 use native.Mathlib.Nat.{mul-le-mul-right, mul-le-mul-left, le-of-mul-le-mul-right, mul-pos}
 use native.Mathlib.Omega.{arith}
-use mathlib.Core.Path.{_≡_, refl, sym, subst, ap, _∙_}
+use mathlib.Core.Path.{_≡_, sym, subst}
 use mathlib.Core.Bool.{Bool, true, false}
-use mathlib.Core.Logic.{_⊎_, inl, inr}
+use mathlib.Core.Logic.{inl, inr}
 use lib.Pow.{pow-pos}
 use Rattle.registers.specs.Laws.{Bits}
 use Rattle.registers.specs.Lines.{Sum}
-use Rattle.registers.proofs.Near.{Near, Near30}
+use Rattle.registers.proofs.Near.{Near}
 use Rattle.registers.proofs.Spacing.{Rounded, exact, order}
 use Rattle.registers.proofs.Signs.{Line}
+use Rattle.sheets.proofs.Shape.{Shape}
 use Rattle.sheets.proofs.Side.{Side}
 use Rattle.sheets.proofs.Correction.{left-over, sum-plus, correction}
 use Rattle.sheets.proofs.QuotientError.{hi-bq}
 use Rattle.sheets.proofs.QuotientSide.{quotient-side}
 use Rattle.sheets.proofs.QuotientRest.{left-bits, over-bits}
 
-module _ (w W A B Y Q A′ α B′ β : ℕ)
-    (whole : W ≡ 2 ^ w)
-    (ha : A * W ≡ A′ * 2 ^ α)
-    (la : 2 ^ 23 ≤ A′)
-    (ta : A′ < 2 ^ 24)
-    (hb : B ≡ B′ * 2 ^ β)
-    (lb : 2 ^ 23 ≤ B′)
-    (tb : B′ < 2 ^ 24)
-    (room : β + 25 ≤ α)
+-- a and b, with b as a significand and a power of two too
+pub record Fraction (W A B : ℕ) : Type 0 where
+  pub dividend : Shape W A
+  pub significand : ℕ
+  pub exponent : ℕ
+  pub is : B ≡ significand * 2 ^ exponent
+  pub least : 2 ^ 23 ≤ significand
+  pub most : significand < 2 ^ 24
+  pub room : exponent + 25 ≤ dividend .exponent
+
+module _ {W A B : ℕ} (Y Q : ℕ)
+    (f : Fraction W A B)
     (inv : Near 50000000 (W * W) (B * Y))
     (rq : Rounded 24 (A * Y) (Q * W))
-    (s : Bool) (R : ℕ) (line : Line 30 W false A true (B * Q) s R)
+    {s : Bool} {R : ℕ} (line : Line 30 W false A true (B * Q) s R)
   where
     rest-bits : (t : Bool) (n : ℕ) → Sum false (A * W) true (B * Q) t n → Bits 30 n
-    rest-bits false n e = left-bits w W A B Y Q A′ α B′ β whole ha la ta hb lb tb room inv rq n (omega (arith, e))
-    rest-bits true n e = over-bits w W A B Y Q A′ α B′ β whole ha la ta hb lb tb room inv rq n (omega (arith, e))
+    rest-bits false n e = left-bits (f .dividend .w) W A B Y Q (f .dividend .significand) (f .dividend .exponent) (f .significand) (f .exponent) (f .dividend .whole) (f .dividend .is) (f .dividend .least) (f .dividend .most) (f .is) (f .least) (f .most) (f .room) inv rq n (omega (arith, e))
+    rest-bits true n e = over-bits (f .dividend .w) W A B Y Q (f .dividend .significand) (f .dividend .exponent) (f .significand) (f .exponent) (f .dividend .whole) (f .dividend .is) (f .dividend .least) (f .dividend .most) (f .is) (f .least) (f .most) (f .room) inv rq n (omega (arith, e))
 
     pub r1-exact : Sum false (A * W) true (B * Q) s (R * W)
     r1-exact = subst (Sum false (A * W) true (B * Q) s) (sym (exact 30 (line .line) (rest-bits s (line .n) (line .sum)))) (line .sum)
 
     one : zero < W
-    one = omega (arith, whole, pow-pos w)
+    one = omega (arith, f .dividend .whole, pow-pos (f .dividend .w))
 
     some-aw : zero < A * W
-    some-aw = omega (arith, ha, mul-pos {m = A′} (omega arith) (pow-pos α))
+    some-aw = omega (arith, f .dividend .is, mul-pos {m = f .dividend .significand} (omega (arith, f .dividend .least)) (pow-pos (f .dividend .exponent)))
 
     some-a : zero < A
     some-a = elim (order A zero) [ inl h ↦ absurd (omega (arith, some-aw, mul-le-mul-right W h)) | inr h ↦ h ]
@@ -65,5 +69,5 @@ module _ (w W A B Y Q A′ α B′ β : ℕ)
       closing-plus = sum-plus (Q * W) (R * Y) s t N some-q faint sum
 
       pub closing-side : (G : ℕ) → Bits 25 G → Side (A * W) (B * G) N (G * W)
-      closing-side = quotient-side w W A B Y Q R N A′ α B′ β whole ha la ta hb lb tb room inv rq
+      closing-side = quotient-side (f .dividend .w) W A B Y Q R N (f .dividend .significand) (f .dividend .exponent) (f .significand) (f .exponent) (f .dividend .whole) (f .dividend .is) (f .dividend .least) (f .dividend .most) (f .is) (f .least) (f .most) (f .room) inv rq
           (correction W (A * W) (B * Q) Q Y s R (R * W) N r1-exact (subst (λ z. Sum false (Q * W) s (R * Y) z N) closing-plus sum))

@@ -1,9 +1,9 @@
 -- How far b times the closing value q1 + r1·y1 is from a: b·(q1 + r1·y1) - a is r1·(b·y1 - 1), which is below the unit that a and b·g are multiples of.
-use Prim.Native.Nat.{ℕ, zero, suc, _+_, _*_, _^_, _≤_, _<_}
-use native.Mathlib.Nat.{mul-le-mul, mul-le-mul-right, mul-le-mul-left, le-of-mul-le-mul-right, lt-of-mul-lt-mul-right, lt-of-mul-lt-mul-left, le-dest, mul-pos}
+use Prim.Native.Nat.{ℕ, zero, _+_, _*_, _^_, _≤_, _<_}
+use native.Mathlib.Nat.{mul-le-mul-right, le-of-mul-le-mul-right, lt-of-mul-lt-mul-left}
 use native.Mathlib.Omega.{arith}
-use mathlib.Core.Logic.{_⊎_, inl, inr}
-use mathlib.Core.Path.{_≡_, refl, subst, ap}
+use mathlib.Core.Logic.{inl, inr}
+use mathlib.Core.Path.{ap}
 use Rattle.registers.proofs.Near.{Near, Near24}
 use Rattle.sheets.proofs.Correction.{Correction}
 

@@ -1,13 +1,12 @@
 -- The closing value of a quotient beside the places of its 25th bit. Where a is b·g, g has at most 24 bits, q1 is g and r1 is zero.
-use Prim.Native.Nat.{ℕ, zero, suc, _+_, _*_, _-_, _^_, _≤_, _<_, _/_, _%_}
-use native.Mathlib.Nat.{mul-le-mul, mul-le-mul-right, mul-le-mul-left, le-of-mul-le-mul-right, lt-of-mul-lt-mul-right, lt-of-mul-lt-mul-left, le-dest, mul-pos, mul-lt-mul-of-pos-right, eq-of-mul-eq-mul-right}
-use native.Mathlib.Decide.{decLe, decLt}
+use Prim.Native.Nat.{ℕ, zero, _+_, _*_, _-_, _^_, _≤_, _<_, _/_}
+use native.Mathlib.Nat.{mul-le-mul, mul-le-mul-right, le-of-mul-le-mul-right, lt-of-mul-lt-mul-right, mul-pos, eq-of-mul-eq-mul-right}
 use native.Mathlib.Omega.{arith}
-use mathlib.Core.Path.{_≡_, refl, sym, subst, ap, _∙_}
-use mathlib.Core.Logic.{_⊎_, inl, inr}
+use mathlib.Core.Path.{_≡_, ap}
+use mathlib.Core.Logic.{inl, inr}
 use lib.Pow.{pow-pos, pow-add, pow-mono}
 use Rattle.registers.proofs.Near.{Near, Near24}
-use Rattle.registers.specs.Laws.{Bits, apart}
+use Rattle.registers.specs.Laws.{Bits}
 use Rattle.registers.proofs.Spacing.{Rounded, spacing, odd-out, order, raise}
 use Rattle.sheets.proofs.QuotientError.{sum-below, sum-above}
 use Rattle.sheets.proofs.Correction.{Correction}

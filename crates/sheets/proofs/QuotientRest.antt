@@ -1,13 +1,14 @@
 -- What a leaves over b·q1 has at most 30 bits, so that the residual r1 is exact.
-use Prim.Native.Nat.{ℕ, zero, suc, _+_, _*_, _-_, _^_, _≤_, _<_, _/_, _%_}
-use native.Mathlib.Nat.{mul-le-mul, mul-le-mul-right, mul-le-mul-left, le-of-mul-le-mul-right, lt-of-mul-lt-mul-right, lt-of-mul-lt-mul-left, le-dest, mul-pos, eq-of-mul-eq-mul-right, pow-succ'}
+use Prim.Native.Nat.{ℕ, zero, suc, _+_, _*_, _-_, _^_, _≤_, _<_}
+use native.Mathlib.Nat.{mul-le-mul-right, lt-of-mul-lt-mul-right, lt-of-mul-lt-mul-left, mul-pos, eq-of-mul-eq-mul-right, pow-succ'}
 use native.Mathlib.Omega.{arith}
-use mathlib.Core.Path.{_≡_, refl, sym, subst, ap, _∙_}
-use mathlib.Core.Logic.{_⊎_, inl, inr}
+use mathlib.Core.Path.{_≡_, sym, ap, _∙_}
+use mathlib.Core.Logic.{inl, inr}
 use lib.Pow.{pow-pos, pow-add, pow-mono}
-use Rattle.registers.proofs.Near.{Near, Near24}
+use Rattle.registers.proofs.Near.{Near}
 use Rattle.registers.specs.Laws.{Bits}
-use Rattle.registers.proofs.Spacing.{Rounded, order, raise, exact}
+use Rattle.registers.proofs.Spacing.{Rounded, order, raise}
+use Rattle.sheets.proofs.Correction.{few-bits}
 use Rattle.sheets.proofs.QuotientError.{hi-bq, lo-bq}
 use Rattle.sheets.proofs.QuotientSide.{choose}
 
@@ -57,23 +58,15 @@ module _ (w W A B Y Q A′ α B′ β : ℕ)
       bq-is : (q : ℕ) → Q ≡ q * 2 ^ s → B * Q ≡ B′ * q * (2 ^ β * 2 ^ s)
       bq-is q e = omega (arith, ap (λ x. x * Q) hb, ap (λ x. B′ * 2 ^ β * x) e)
 
-      few : (x y n : ℕ) → n + y * (2 ^ β * 2 ^ s) ≡ x * (2 ^ β * 2 ^ s) → n < 50000000 * (2 ^ β * 2 ^ s) → Bits 30 n
-      few x y n e h = go (le-dest (le-of-mul-le-mul-right {m = y} {n = x} {k = 2 ^ β * 2 ^ s} (omega arith) some))
-        where
-          go : (r : ℕ) × (y + r ≡ x) → Bits 30 n
-          go r = record { part = r .0; exp = β + s; fits = omega (arith, small); is = n-is ∙ ap (λ t. r .0 * t) (sym (pow-add 2 β s)) }
-            where
-              n-is : n ≡ r .0 * (2 ^ β * 2 ^ s)
-              n-is = omega (arith, ap (λ t. t * (2 ^ β * 2 ^ s)) (r .1))
-
-              small : r .0 < 50000000
-              small = lt-of-mul-lt-mul-right (2 ^ β * 2 ^ s) (omega (arith, n-is))
+      -- x and y multiples of the unit, not far apart
+      close-by : (x y : ℕ) → x * (2 ^ β * 2 ^ s) < y * (2 ^ β * 2 ^ s) + 50000000 * (2 ^ β * 2 ^ s) → x < y + 2 ^ 30
+      close-by x y h = omega (arith, lt-of-mul-lt-mul-right (2 ^ β * 2 ^ s) {m = x} {n = y + 50000000} (omega (arith, h)))
 
       few-left : (n : ℕ) → n + B * Q ≡ A * W → Bits 30 n
-      few-left n e = few a (B′ * q-place .0) n (omega (arith, is, bq-is (q-place .0) (q-place .1))) (omega (arith, bq-lo, size, some))
+      few-left n e = few-bits β s a (B′ * q-place .0) n (omega (arith, is, bq-is (q-place .0) (q-place .1))) (close-by a (B′ * q-place .0) (omega (arith, is, bq-is (q-place .0) (q-place .1), bq-lo, size, some)))
 
       few-over : (n : ℕ) → n + A * W ≡ B * Q → Bits 30 n
-      few-over n e = few (B′ * q-place .0) a n (omega (arith, is, bq-is (q-place .0) (q-place .1))) (omega (arith, bq-hi, size, some))
+      few-over n e = few-bits β s (B′ * q-place .0) a n (omega (arith, is, bq-is (q-place .0) (q-place .1))) (close-by (B′ * q-place .0) a (omega (arith, is, bq-is (q-place .0) (q-place .1), bq-hi, size, some)))
 
     pub left-bits : (n : ℕ) → n + B * Q ≡ A * W → Bits 30 n
     left-bits = let c = choose (A * W) A′ α B′ β ha la ta lb tb room in few-left (c .0) (c .1) (c .2) (c .3) (c .4)

@@ -1,13 +1,13 @@
 -- The closing value of a quotient lies to every number of at most 25 bits as a / b does: by its places from the first one of its binade up, and below that since both lie above.
-use Prim.Native.Nat.{ℕ, zero, suc, _+_, _*_, _-_, _^_, _≤_, _<_, _/_, _%_}
-use native.Mathlib.Nat.{mul-le-mul, mul-le-mul-right, mul-le-mul-left, le-of-mul-le-mul-right, lt-of-mul-lt-mul-right, lt-of-mul-lt-mul-left, le-dest, mul-pos, mul-lt-mul-of-pos-right, mul-lt-mul-of-pos-left, pow-succ', eq-of-mul-eq-mul-right}
+use Prim.Native.Nat.{ℕ, zero, suc, _+_, _*_, _-_, _^_, _≤_, _<_, _/_}
+use native.Mathlib.Nat.{mul-le-mul-right, mul-pos, mul-lt-mul-of-pos-right, mul-lt-mul-of-pos-left, pow-succ'}
 use native.Mathlib.Omega.{arith}
 use mathlib.Core.Path.{_≡_, refl, sym, subst, ap, _∙_}
-use mathlib.Core.Logic.{_⊎_, inl, inr}
-use lib.Pow.{pow-pos, pow-add, pow-mono}
-use Rattle.registers.proofs.Near.{Near, Near24}
+use mathlib.Core.Logic.{inl, inr}
+use lib.Pow.{pow-pos, pow-add}
+use Rattle.registers.proofs.Near.{Near}
 use Rattle.registers.specs.Laws.{Bits}
-use Rattle.registers.proofs.Spacing.{Rounded, order, raise}
+use Rattle.registers.proofs.Spacing.{Rounded, order}
 use Rattle.sheets.proofs.Side.{Side, on-place}
 use Rattle.sheets.proofs.Correction.{Correction}
 use Rattle.sheets.proofs.QuotientPlaces.{hit, at-below, at-above, nothing, even-part}

@@ -1,9 +1,8 @@
 -- From what the code has at each call to the operands, the seed and the lines of a quotient.
-use Prim.Native.Nat.{ℕ, zero, _+_, _*_, _^_, _≤_, _<_}
-use native.Mathlib.Omega.{arith}
-use mathlib.Core.Bool.{Bool, true, false}
-use mathlib.Core.List.{List, [], _∷_}
-use mathlib.Core.Path.{_≡_, refl, sym, ap, subst, _∙_}
+use Prim.Native.Nat.{ℕ, zero, _*_, _^_, _≤_, _<_}
+use mathlib.Core.Bool.{true, false}
+use mathlib.Core.List.{[], _∷_}
+use mathlib.Core.Path.{_≡_, refl, ap, _∙_}
 use Rattle.std.specs.declared.result.Result.the-variants.{Ok}
 use Rattle.std.specs.Results.{isOk}
 use Rattle.registers.specs.declared.register.Choice.the-variants.{Plus, Minus}
@@ -17,7 +16,7 @@ use Rattle.sources.specs.Seeds.{ReciprocalSeed, plain}
 use Rattle.sheets.specs.declared.operand.Operand.{Operand}
 use Rattle.sheets.specs.Beside.{Same-side, besideQuotient}
 use Rattle.sheets.specs.Operands.{held, heldAt, one}
-use Rattle.sheets.specs.Quotients.{Quotient-facts, Quotient-lines, Quotient-sheet, Reciprocal-seed}
+use Rattle.sheets.specs.Quotients.{Quotient-sheet, Reciprocal-seed}
 use Rattle.sheets.proofs.Placing.{reciprocal-close}
 use Rattle.sheets.proofs.QuotientChain as Chain
 use Rattle.sheets.proofs.Starting.{in-range, decoded, held-of, number-bits}

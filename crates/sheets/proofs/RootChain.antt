@@ -1,10 +1,10 @@
 -- The steps of a root's sheet one after the other: none is refused, every line is of moderate size, and the closing value lies to every number of at most 25 bits as the exact root does.
 -- Each section takes the next lines with their equations.
-use Prim.Native.Nat.{ℕ, zero, suc, _+_, _-_, _*_, _^_, _≤_, _<_}
-use native.Mathlib.Nat.{mul-le-mul-right, mul-le-mul-left, mul-pos, mul-assoc, zero-mul}
+use Prim.Native.Nat.{ℕ, zero, _+_, _-_, _*_, _^_, _≤_, _<_}
+use native.Mathlib.Nat.{mul-le-mul-right, mul-pos, zero-mul}
 use native.Mathlib.Omega.{arith}
 use mathlib.Core.Bool.{Bool, true, false}
-use mathlib.Core.Logic.{_⊎_, inl, inr}
+use mathlib.Core.Logic.{inr}
 use mathlib.Core.Path.{_≡_, refl, sym, ap, subst, _∙_}
 use lib.Pow.{pow-pos, pow-add}
 use Rattle.std.specs.declared.result.Result.the-variants.{Ok}
@@ -21,10 +21,10 @@ use Rattle.registers.proofs.Near.{Near}
 use Rattle.registers.proofs.Signs.{Line, upright-sign}
 use Rattle.sources.specs.Seeds.{plain}
 use Rattle.sheets.specs.Beside.{Same-side, besideRoot}
-use Rattle.sheets.specs.Operands.{Moderate, half, held}
+use Rattle.sheets.specs.Operands.{half, held}
 use Rattle.sheets.specs.Roots.{Halved, Root-facts}
 use Rattle.sheets.proofs.Inverse.{grown-plus}
-use Rattle.sheets.proofs.Placing.{Decoded, least, most, units-bits, product-place}
+use Rattle.sheets.proofs.Placing.{Decoded, least, most, units-bits, shape}
 use Rattle.sheets.proofs.RootEnd as End
 use Rattle.sheets.proofs.RootPair as Pair
 use Rattle.sheets.proofs.Scales.{root-beside}
@@ -70,6 +70,9 @@ module _ (a : ℕ) (y0 h0 : Value) (o : Start a y0 h0) where
   hi : 160000 * (held a .units * (2 * h0 .units) * (2 * h0 .units)) ≤ 160801 * (2 ^ bias * 2 ^ bias * 2 ^ bias)
   hi = subst (λ y. 160000 * (held a .units * y * y) ≤ 160801 * (2 ^ bias * 2 ^ bias * 2 ^ bias)) (sym (o .halved .twice)) (o .close-most)
 
+  close : Pair.Close (2 ^ bias) (2 ^ (bias - 1)) (held a .units) (h0 .units)
+  close = record { one = pos; halves = halves; least = lo; most = hi }
+
   a-bits : (k : ℕ) → 24 ≤ k → Bits k (held a .units * 2 ^ bias * (2 ^ bias * 2 ^ bias))
   a-bits k h = more-bits 24 k h (subst (Bits 24) (ap (λ t. held a .units * 2 ^ bias * t) (pow-add 2 bias bias)) (shifted-bits 24 (bias + bias) (shifted-bits 24 bias (units-bits a (o .operand)))))
 
@@ -100,14 +103,14 @@ module _ (a : ℕ) (y0 h0 : Value) (o : Start a y0 h0) where
     plus-s0 = upright-sign 30 (2 ^ bias) zero (held a .units * y0 .units) (s0 .negative) (s0 .units) pos l-s0
 
     d0-size : (t : Bool) (n : ℕ) → Sum false (2 ^ (bias - 1) * 2 ^ bias) true (s0 .units * h0 .units) t n → Sized (2 ^ bias) 61 n
-    d0-size = half-size (s0 .units) (h0 .units) (l-s0 .line .bits) (shifted-bits 30 bias (o .h0-bits)) (Pair.p0-most (2 ^ bias) (2 ^ (bias - 1)) (held a .units) (h0 .units) pos halves lo hi (s0 .negative) (s0 .units) m-s0)
+    d0-size = half-size (s0 .units) (h0 .units) (l-s0 .line .bits) (shifted-bits 30 bias (o .h0-bits)) (Pair.p0-most close m-s0)
 
     pub d0-given : isOk (fused 30 Minus half s0 h0) ≡ true
     d0-given = given-at 30 wide Minus half s0 h0 false true refl (both-plus (s0 .negative) (h0 .negative) plus-s0 (o .halved .plus)) 61 (omega arith) d0-size
 
     s0-range : (2 ^ bias ≤ s0 .units * 2 ^ 75) × (s0 .units ≤ 2 ^ bias * 2 ^ 75)
     s0-range =
-        let q = Pair.s0-square (2 ^ bias) (2 ^ (bias - 1)) (held a .units) (h0 .units) pos halves lo hi (s0 .negative) (s0 .units) m-s0 in
+        let q = Pair.s0-square close m-s0 in
         root-range (2 ^ bias) pos (held a .units) (s0 .units) (least a (o .operand)) (most a (o .operand)) (omega (arith, q .0)) (omega (arith, q .1))
 
     module _ (d0 : Value) (d0-is : fused 30 Minus half s0 h0 ≡ Ok d0) where
@@ -115,7 +118,7 @@ module _ (a : ℕ) (y0 h0 : Value) (o : Start a y0 h0) where
       l-d0 = line-at 30 wide Minus half s0 h0 d0 false true refl (both-plus (s0 .negative) (h0 .negative) plus-s0 (o .halved .plus)) d0-is
 
       small-0 : 2 * d0 .units ≤ 2 ^ bias
-      small-0 = Pair.d0-small (2 ^ bias) (2 ^ (bias - 1)) (held a .units) (h0 .units) pos halves lo hi (s0 .negative) (s0 .units) m-s0 (d0 .negative) (d0 .units) l-d0
+      small-0 = Pair.d0-small close m-s0 l-d0
 
       h1-size : (t : Bool) (n : ℕ) → Sum false (h0 .units * 2 ^ bias) (d0 .negative) (d0 .units * h0 .units) t n → Sized (2 ^ bias) 76 n
       h1-size = grown-size (2 ^ bias) pos 75 (h0 .units) (d0 .units) small-0 (h0-range .0) (h0-range .1) (d0 .negative)
@@ -137,22 +140,22 @@ module _ (a : ℕ) (y0 h0 : Value) (o : Start a y0 h0) where
         l-s1 = line-at 30 wide Plus s0 d0 s0 s1 false (d0 .negative) plus-s0 (with-plus (d0 .negative) (s0 .negative) plus-s0) s1-is
 
         plus-h1 : h1 .negative ≡ false
-        plus-h1 = grown-plus (2 ^ bias) (h0 .units) (d0 .units) pos (Pair.some-h0 (2 ^ bias) (2 ^ (bias - 1)) (held a .units) (h0 .units) pos halves lo hi) small-0 (d0 .negative) (h1 .negative) (h1 .units) l-h1
+        plus-h1 = grown-plus (d0 .units) pos (Pair.some-h0 close) small-0 l-h1
 
         plus-s1 : s1 .negative ≡ false
-        plus-s1 = grown-plus (2 ^ bias) (s0 .units) (d0 .units) pos (Pair.some-s0 (2 ^ bias) (2 ^ (bias - 1)) (held a .units) (h0 .units) pos halves lo hi (s0 .negative) (s0 .units) m-s0) small-0 (d0 .negative) (s1 .negative) (s1 .units) l-s1
+        plus-s1 = grown-plus (d0 .units) pos (Pair.some-s0 close m-s0) small-0 l-s1
 
         pair : Pair.Paired (2 ^ bias) (held a .units) (h1 .units) (s1 .units)
-        pair = Pair.paired (2 ^ bias) (2 ^ (bias - 1)) (held a .units) (h0 .units) pos halves lo hi (s0 .negative) (s0 .units) m-s0 (d0 .negative) (d0 .units) l-d0 (h1 .negative) (h1 .units) l-h1 (s1 .negative) (s1 .units) l-s1
+        pair = Pair.paired close m-s0 l-d0 l-h1 l-s1
 
         d1-size : (t : Bool) (n : ℕ) → Sum false (2 ^ (bias - 1) * 2 ^ bias) true (s1 .units * h1 .units) t n → Sized (2 ^ bias) 61 n
-        d1-size = half-size (s1 .units) (h1 .units) (l-s1 .line .bits) (l-h1 .line .bits) (Pair.p1-most (2 ^ bias) (held a .units) (h1 .units) (s1 .units) pair)
+        d1-size = half-size (s1 .units) (h1 .units) (l-s1 .line .bits) (l-h1 .line .bits) (Pair.p1-most pair)
 
         pub d1-given : isOk (fused 30 Minus half s1 h1) ≡ true
         d1-given = given-at 30 wide Minus half s1 h1 false true refl (both-plus (s1 .negative) (h1 .negative) plus-s1 plus-h1) 61 (omega arith) d1-size
 
         e1-size : (t : Bool) (n : ℕ) → Sum false (held a .units * 2 ^ bias) true (s1 .units * s1 .units) t n → Sized (2 ^ bias) 209 n
-        e1-size = rest-size 30 (s1 .units) (omega arith) (l-s1 .line .bits) (omega (arith, Pair.s1-square (2 ^ bias) (held a .units) (h1 .units) (s1 .units) pair))
+        e1-size = rest-size 30 (s1 .units) (omega arith) (l-s1 .line .bits) (omega (arith, Pair.s1-square pair))
 
         pub e1-given : isOk (fused 30 Minus (held a) s1 s1) ≡ true
         e1-given = given-at 30 wide Minus (held a) s1 s1 false true refl (both-plus (s1 .negative) (s1 .negative) plus-s1 plus-s1) 209 (omega arith) e1-size
@@ -168,11 +171,11 @@ module _ (a : ℕ) (y0 h0 : Value) (o : Start a y0 h0) where
           l-e1 = line-at 30 wide Minus (held a) s1 s1 e1 false true refl (both-plus (s1 .negative) (s1 .negative) plus-s1 plus-s1) e1-is
 
           small-1 : 2 * d1 .units ≤ 2 ^ bias
-          small-1 = Pair.d1-small (2 ^ bias) (held a .units) (h1 .units) (s1 .units) pair (2 ^ (bias - 1)) halves (d1 .negative) (d1 .units) l-d1
+          small-1 = Pair.d1-small pair halves l-d1
 
           s2-size : (t : Bool) (n : ℕ) → Sum false (s1 .units * 2 ^ bias) (e1 .negative) (e1 .units * h1 .units) t n → Sized (2 ^ bias) 75 n
           s2-size t n e =
-              let q = Pair.sum-square (2 ^ bias) (held a .units) (h1 .units) (s1 .units) pair (e1 .negative) (e1 .units) l-e1 t n e in
+              let q = Pair.sum-square pair l-e1 t n e in
               inr (sum-range (2 ^ bias) pos (held a .units) n (least a (o .operand)) (most a (o .operand)) (omega (arith, q .1)) (omega (arith, q .0)))
 
           pub s2-given : isOk (fused 24 Plus s1 e1 h1) ≡ true
@@ -192,19 +195,19 @@ module _ (a : ℕ) (y0 h0 : Value) (o : Start a y0 h0) where
             l-h2 = line-at 30 wide Plus h1 d1 h1 h2 false (d1 .negative) plus-h1 (with-plus (d1 .negative) (h1 .negative) plus-h1) h2-is
 
             plus-s2 : s2 .negative ≡ false
-            plus-s2 = Pair.sum-above (2 ^ bias) (held a .units) (h1 .units) (s1 .units) pair (e1 .negative) (e1 .units) l-e1 (s2 .negative) (l-s2 .n) (l-s2 .sum)
+            plus-s2 = Pair.sum-above pair l-e1 (s2 .negative) (l-s2 .n) (l-s2 .sum)
 
             plus-h2 : h2 .negative ≡ false
-            plus-h2 = grown-plus (2 ^ bias) (h1 .units) (d1 .units) pos (pair .some-h) small-1 (d1 .negative) (h2 .negative) (h2 .units) l-h2
+            plus-h2 = grown-plus (d1 .units) pos (pair .some-h) small-1 l-h2
 
             square : Near (2 ^ 30) (held a .units * 2 ^ bias * (2 ^ bias * 2 ^ bias)) (l-s2 .n * l-s2 .n)
-            square = Pair.sum-square (2 ^ bias) (held a .units) (h1 .units) (s1 .units) pair (e1 .negative) (e1 .units) l-e1 (s2 .negative) (l-s2 .n) (l-s2 .sum)
+            square = Pair.sum-square pair l-e1 (s2 .negative) (l-s2 .n) (l-s2 .sum)
 
             room : 26 ≤ o .operand .exponent + (bias - 172) + bias
             room = omega (arith, bias-is)
 
             e2-size : (t : Bool) (n : ℕ) → Sum false (held a .units * 2 ^ bias) true (s2 .units * s2 .units) t n → Sized (2 ^ bias) 197 n
-            e2-size = rest-size 24 (s2 .units) (omega arith) (l-s2 .line .bits) (omega (arith, End.ss-most bias (2 ^ bias) (held a .units) (o .operand .significand) (o .operand .exponent + (bias - 172) + bias) (l-s2 .n) (s2 .units) refl (product-place a (o .operand)) (o .operand .range .least) (o .operand .range .most) room square (l-s2 .line)))
+            e2-size = rest-size 24 (s2 .units) (omega arith) (l-s2 .line .bits) (omega (arith, End.ss-most (l-s2 .n) (s2 .units) (shape a (o .operand)) room square (l-s2 .line)))
 
             pub e2-given : isOk (fused 30 Minus (held a) s2 s2) ≡ true
             e2-given = given-at 30 wide Minus (held a) s2 s2 false true refl (both-plus (s2 .negative) (s2 .negative) plus-s2 plus-s2) 197 (omega arith) e2-size
@@ -214,7 +217,7 @@ module _ (a : ℕ) (y0 h0 : Value) (o : Start a y0 h0) where
               l-e2 = line-at 30 wide Minus (held a) s2 s2 e2 false true refl (both-plus (s2 .negative) (s2 .negative) plus-s2 plus-s2) e2-is
 
               h2-near : Near (2 ^ 27) (2 ^ bias * 2 ^ bias * 2 ^ bias) (4 * (held a .units * (h2 .units * h2 .units)))
-              h2-near = Pair.h2-near (2 ^ bias) (held a .units) (h1 .units) (s1 .units) pair (2 ^ (bias - 1)) halves (d1 .negative) (d1 .units) l-d1 (h2 .negative) (h2 .units) l-h2
+              h2-near = Pair.h2-near pair halves l-d1 l-h2
 
               sum : Sum false (s2 .units * 2 ^ bias) (e2 .negative) (e2 .units * h2 .units) (fusedSign Plus s2 e2 h2) (fusedSize Plus s2 e2 h2)
               sum = exact-sum Plus s2 e2 h2 false (e2 .negative) plus-s2 (with-plus (e2 .negative) (h2 .negative) plus-h2)
@@ -234,12 +237,12 @@ module _ (a : ℕ) (y0 h0 : Value) (o : Start a y0 h0) where
                   moderate 30 76 (omega arith) (omega arith) (l-h2 .n) h2 (l-h2 .line .near) (h2-size _ _ (l-h2 .sum)),
                   moderate 30 197 (omega arith) (omega arith) (l-e2 .n) e2 (l-e2 .line .near) (e2-size _ _ (l-e2 .sum)),
                 );
-                e2-exact = End.e2-exact bias (2 ^ bias) (held a .units) (o .operand .significand) (o .operand .exponent + (bias - 172) + bias) (l-s2 .n) (s2 .units) refl (product-place a (o .operand)) (o .operand .range .least) (o .operand .range .most) room square (l-s2 .line) (e2 .negative) (e2 .units) l-e2;
-                plus = End.closing-plus bias (2 ^ bias) (held a .units) (o .operand .significand) (o .operand .exponent + (bias - 172) + bias) (l-s2 .n) (s2 .units) refl (product-place a (o .operand)) (o .operand .range .least) (o .operand .range .most) room square (l-s2 .line) (e2 .negative) (e2 .units) l-e2 (h2 .units) h2-near (fusedSign Plus s2 e2 h2) (fusedSize Plus s2 e2 h2) sum;
+                e2-exact = End.e2-exact (l-s2 .n) (s2 .units) (shape a (o .operand)) room square (l-s2 .line) l-e2;
+                plus = End.closing-plus (l-s2 .n) (s2 .units) (shape a (o .operand)) room square (l-s2 .line) l-e2 (h2 .units) h2-near _ _ sum;
               }
 
               side : (G : ℕ) → Bits 25 G → Side (held a .units * 2 ^ bias) (G * G) (fusedSize Plus s2 e2 h2) (G * 2 ^ bias)
-              side = End.closing-side bias (2 ^ bias) (held a .units) (o .operand .significand) (o .operand .exponent + (bias - 172) + bias) (l-s2 .n) (s2 .units) refl (product-place a (o .operand)) (o .operand .range .least) (o .operand .range .most) room square (l-s2 .line) (e2 .negative) (e2 .units) l-e2 (h2 .units) h2-near (fusedSign Plus s2 e2 h2) (fusedSize Plus s2 e2 h2) sum
+              side = End.closing-side (l-s2 .n) (s2 .units) (shape a (o .operand)) room square (l-s2 .line) l-e2 (h2 .units) h2-near _ _ sum
 
               -- the closing value is above zero
               pub closing-some : zero < fusedSize Plus s2 e2 h2

@@ -1,11 +1,11 @@
 -- The closing value of a root beside whole numbers, counted at the place of the root's 25th bit: e2·h2 is compared with one place and with two, by squares.
 -- An error bound alone would not tell: that the residual is a multiple of four leaves the room that is needed.
-use Prim.Native.Nat.{ℕ, zero, suc, _+_, _*_, _-_, _^_, _≤_, _<_}
-use native.Mathlib.Nat.{mul-le-mul, mul-le-mul-right, mul-le-mul-left, le-of-mul-le-mul-right, le-of-mul-le-mul-left, le-dest, mul-pos}
+use Prim.Native.Nat.{ℕ, zero, _+_, _*_, _-_, _^_, _≤_, _<_}
+use native.Mathlib.Nat.{mul-le-mul, mul-le-mul-right, mul-le-mul-left, le-of-mul-le-mul-right, mul-pos}
 use native.Mathlib.Omega.{arith}
-use mathlib.Core.Path.{_≡_, refl, sym, subst, ap}
-use mathlib.Core.Logic.{_⊎_, inl, inr}
-use Rattle.registers.proofs.Near.{Near, Near30}
+use mathlib.Core.Path.{_≡_, sym, subst, ap}
+use mathlib.Core.Logic.{inl, inr}
+use Rattle.registers.proofs.Near.{Near}
 use Rattle.registers.proofs.Spacing.{order}
 use Rattle.sheets.proofs.Side.{Side}
 

@@ -1,12 +1,12 @@
 -- The rounded root s2, counted at the place of the root's 25th bit, is an even number, and its square is within 9/4 of itself of a.
 use Prim.Native.Nat.{ℕ, zero, suc, _+_, _*_, _-_, _^_, _≤_, _<_, _/_, _%_}
-use native.Mathlib.Nat.{mul-le-mul, mul-le-mul-right, mul-le-mul-left, le-of-mul-le-mul-right, le-of-mul-le-mul-left, le-dest, mul-pos, lt-of-mul-lt-mul-right, div-mul-le-self, lt-div-mul-add, pow-succ'}
+use native.Mathlib.Nat.{mul-le-mul, mul-le-mul-right, le-of-mul-le-mul-right, mul-pos, lt-of-mul-lt-mul-right, div-mul-le-self, lt-div-mul-add, pow-succ'}
 use native.Mathlib.Omega.{arith}
 use mathlib.Core.Path.{_≡_, refl, sym, subst, ap, _∙_}
-use mathlib.Core.Logic.{_⊎_, inl, inr}
+use mathlib.Core.Logic.{inl, inr}
 use lib.Pow.{pow-pos, pow-add, pow-mono}
-use Rattle.registers.proofs.Near.{Near, Near30}
-use Rattle.registers.specs.Laws.{Bits, apart}
+use Rattle.registers.proofs.Near.{Near}
+use Rattle.registers.specs.Laws.{Bits}
 use Rattle.registers.proofs.Spacing.{Rounded, spacing, order, raise}
 
 pub sq-le : (x y : ℕ) → x * x ≤ y * y → x ≤ y

@@ -1,13 +1,13 @@
 -- What a leaves over s2² has at most 30 bits, so that the residual e2 is exact.
-use Prim.Native.Nat.{ℕ, zero, suc, _+_, _*_, _-_, _^_, _≤_, _<_, _/_, _%_}
-use native.Mathlib.Nat.{mul-le-mul, mul-le-mul-right, le-of-mul-le-mul-right, le-dest, mul-pos, eq-of-mul-eq-mul-right}
+use Prim.Native.Nat.{ℕ, zero, _+_, _*_, _-_, _^_, _≤_, _<_}
+use native.Mathlib.Nat.{mul-pos, eq-of-mul-eq-mul-right}
 use native.Mathlib.Omega.{arith}
-use mathlib.Core.Path.{_≡_, refl, sym, subst, ap, _∙_}
-use mathlib.Core.Logic.{_⊎_, inl, inr}
-use lib.Pow.{pow-pos, pow-add}
+use mathlib.Core.Path.{_≡_, ap}
+use lib.Pow.{pow-pos}
 use Rattle.registers.proofs.Near.{Near}
 use Rattle.registers.specs.Laws.{Bits}
-use Rattle.registers.proofs.Spacing.{Rounded, order}
+use Rattle.registers.proofs.Spacing.{Rounded}
+use Rattle.sheets.proofs.Correction.{few-bits}
 use Rattle.sheets.proofs.RootNear.{Near-root, near-place, choose-root}
 
 module _ (w W A C S : ℕ)
@@ -31,17 +31,11 @@ module _ (w W A C S : ℕ)
           s-is : S ≡ near-at .root * 2 ^ s
           s-is = eq-of-mul-eq-mul-right W one S (near-at .root * 2 ^ s) (omega (arith, near-at .is))
 
-      few : (x y n : ℕ) → n + y * (2 ^ s * 2 ^ s) ≡ x * (2 ^ s * 2 ^ s) → 4 * x ≤ 4 * y + 9 * 2 ^ 25 → Bits 30 n
-      few x y n e h = go (le-dest (le-of-mul-le-mul-right {m = y} {n = x} {k = 2 ^ s * 2 ^ s} (omega arith) some))
-        where
-          go : (t : ℕ) × (y + t ≡ x) → Bits 30 n
-          go t = record { part = t .0; exp = s + s; fits = omega (arith, t .1); is = omega (arith, ap (λ z. z * (2 ^ s * 2 ^ s)) (t .1), ap (λ z. t .0 * z) (pow-add 2 s s)) }
-
       few-left : (n : ℕ) → n + S * S ≡ A * W → Bits 30 n
-      few-left n e = few a (near-at .root * near-at .root) n (omega (arith, is, ss)) (omega (arith, near-at .not-over, near-at .most))
+      few-left n e = few-bits s s a (near-at .root * near-at .root) n (omega (arith, is, ss)) (omega (arith, near-at .not-over, near-at .most))
 
       few-over : (n : ℕ) → n + A * W ≡ S * S → Bits 30 n
-      few-over n e = few (near-at .root * near-at .root) a n (omega (arith, is, ss)) (omega (arith, near-at .not-under, near-at .most))
+      few-over n e = few-bits s s (near-at .root * near-at .root) a n (omega (arith, is, ss)) (omega (arith, near-at .not-under, near-at .most))
 
     module _ (A′ α : ℕ) (ha : A * W ≡ A′ * 2 ^ α) (la : 2 ^ 23 ≤ A′) (ta : A′ < 2 ^ 24) (room : 26 ≤ α) where
       pub left-bits : (n : ℕ) → n + S * S ≡ A * W → Bits 30 n

@@ -1,13 +1,13 @@
 -- The closing value of a root lies to every number of at most 25 bits as the root of a does: by its places, from the first one of its binade up.
-use Prim.Native.Nat.{ℕ, zero, suc, _+_, _*_, _-_, _^_, _≤_, _<_, _/_, _%_}
-use native.Mathlib.Nat.{mul-le-mul, mul-le-mul-right, mul-le-mul-left, le-of-mul-le-mul-right, le-of-mul-le-mul-left, le-dest, mul-pos, lt-of-mul-lt-mul-right, mul-lt-mul-of-pos-right, eq-of-mul-eq-mul-right, pow-succ'}
+use Prim.Native.Nat.{ℕ, zero, _+_, _*_, _-_, _^_, _≤_, _<_}
+use native.Mathlib.Nat.{mul-le-mul, mul-le-mul-right, le-of-mul-le-mul-right, le-dest, mul-pos, mul-lt-mul-of-pos-right, eq-of-mul-eq-mul-right}
 use native.Mathlib.Omega.{arith}
 use mathlib.Core.Path.{_≡_, refl, sym, subst, ap, _∙_}
-use mathlib.Core.Logic.{_⊎_, inl, inr}
-use lib.Pow.{pow-pos, pow-add, pow-mono}
-use Rattle.registers.proofs.Near.{Near, Near30}
+use mathlib.Core.Logic.{inl, inr}
+use lib.Pow.{pow-pos}
+use Rattle.registers.proofs.Near.{Near}
 use Rattle.registers.specs.Laws.{Bits}
-use Rattle.registers.proofs.Spacing.{Rounded, order, raise}
+use Rattle.registers.proofs.Spacing.{Rounded, order}
 use Rattle.sheets.proofs.Side.{Side, scaled, on-place}
 use Rattle.sheets.proofs.Correction.{Correction}
 use Rattle.sheets.proofs.RootGrid.{at-over, at-under}

@@ -1,8 +1,8 @@
--- The first root s1 bettered by its residual: (s1 + e1·h1)² is a up to one part in 2 ^ 30, by the cubic identity at m = a·s1 and x = s1³.
+-- The first root s1 improved by its residual: (s1 + e1·h1)² is a up to one part in 2 ^ 30, by the cubic identity at m = a·s1 and x = s1³.
 use Prim.Native.Nat.{ℕ, zero, suc, _+_, _*_, _-_, _^_, _≤_, _<_}
-use native.Mathlib.Nat.{mul-le-mul, mul-le-mul-right, mul-le-mul-left, le-of-mul-le-mul-right, le-of-mul-le-mul-left, le-dest, mul-pos}
+use native.Mathlib.Nat.{mul-le-mul, mul-le-mul-right, mul-le-mul-left, le-of-mul-le-mul-right, mul-pos}
 use native.Mathlib.Omega.{arith}
-use mathlib.Core.Path.{_≡_, refl, sym, subst, ap}
+use mathlib.Core.Path.{_≡_, refl, ap}
 use mathlib.Core.Logic.{_⊎_, inl, inr}
 use Rattle.registers.proofs.Near.{Near, Near30}
 use Rattle.sheets.proofs.Correction.{Correction}

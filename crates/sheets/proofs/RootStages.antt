@@ -1,8 +1,8 @@
--- The two rounds of a root that better the half inverse h: 4·a·h² comes from one part in 199 to one in 52,000 and then to one in 2 ^ 27, while s stays 2·a·h.
-use Prim.Native.Nat.{ℕ, zero, suc, _+_, _*_, _-_, _^_, _≤_, _<_}
-use native.Mathlib.Nat.{mul-le-mul, mul-le-mul-right, mul-le-mul-left, le-of-mul-le-mul-right, le-of-mul-le-mul-left, le-dest, mul-pos}
+-- The two rounds of a root that improve the half inverse h: 4·a·h² comes from one part in 199 to one in 52,000 and then to one in 2 ^ 27, while s stays 2·a·h.
+use Prim.Native.Nat.{ℕ, zero, _+_, _*_, _-_, _^_, _≤_, _<_}
+use native.Mathlib.Nat.{mul-le-mul, mul-le-mul-right, mul-le-mul-left, le-of-mul-le-mul-right, mul-pos}
 use native.Mathlib.Omega.{arith}
-use mathlib.Core.Path.{_≡_, refl, sym, subst, ap}
+use mathlib.Core.Path.{_≡_, ap}
 use mathlib.Core.Logic.{_⊎_, inl, inr}
 use Rattle.registers.proofs.Near.{Near, Near30}
 use Rattle.sheets.proofs.Cubic.{cubic-within, apart-small}

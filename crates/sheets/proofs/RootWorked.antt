@@ -1,9 +1,9 @@
 -- From what the code has at each call to the operand, the seed and the lines of a root.
 use Prim.Native.Nat.{ℕ, zero, _+_, _-_, _*_, _/_, _^_, _≤_, _<_}
 use native.Mathlib.Omega.{arith}
-use mathlib.Core.Bool.{Bool, true, false}
-use mathlib.Core.List.{List, [], _∷_}
-use mathlib.Core.Path.{_≡_, refl, sym, ap, subst, _∙_}
+use mathlib.Core.Bool.{true, false}
+use mathlib.Core.List.{[], _∷_}
+use mathlib.Core.Path.{_≡_, refl, ap, _∙_}
 use lib.Pow.{pow-pos}
 use Rattle.std.specs.declared.result.Result.the-variants.{Ok}
 use Rattle.std.specs.Results.{isOk}
@@ -19,7 +19,7 @@ use Rattle.sources.specs.Seeds.{IsRadicand, RootSeed, plain}
 use Rattle.sheets.specs.declared.operand.Operand.{Operand}
 use Rattle.sheets.specs.Beside.{Same-side, besideRoot}
 use Rattle.sheets.specs.Operands.{half, held, heldAt, radicandOf}
-use Rattle.sheets.specs.Roots.{Halved, Root-facts, Root-lines, Root-seed, Root-sheet}
+use Rattle.sheets.specs.Roots.{Halved, Root-seed, Root-sheet}
 use Rattle.sheets.proofs.Placing.{least, most, radicand-is, root-close}
 use Rattle.sheets.proofs.RootChain as Chain
 use Rattle.sheets.proofs.Sizes.{inverse-range}

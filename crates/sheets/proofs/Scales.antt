@@ -1,8 +1,8 @@
 -- From register units to the units in which an exact value is told: a Side for every number of at most 25 bits is the same side there, and so the same rounding.
-use Prim.Native.Nat.{ℕ, zero, _+_, _-_, _*_, _^_, _<_, _≤_, compare}
+use Prim.Native.Nat.{ℕ, zero, _+_, _-_, _*_, _^_, _<_, compare}
 use native.Mathlib.Nat.{mul-pos, mul-assoc, mul-lt-mul-of-pos-right}
 use native.Mathlib.Omega.{arith}
-use mathlib.Core.Path.{_≡_, sym, ap, subst, _∙_}
+use mathlib.Core.Path.{_≡_, sym, ap, _∙_}
 use lib.Pow.{pow-pos, pow-add}
 use Rattle.registers.specs.Binary32.{besideWhole}
 use Rattle.registers.specs.Laws.{Bits}

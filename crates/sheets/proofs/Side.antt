@@ -1,5 +1,5 @@
 -- Two numbers lie to one another as two others do: what a closing value has in common with the exact one.
-use Prim.Native.Nat.{ℕ, suc, _+_, _*_, _^_, _<_, _≤_, compare}
+use Prim.Native.Nat.{ℕ, suc, _*_, _^_, _<_, compare}
 use native.Mathlib.Nat.{mul-le-mul-right, pow-succ', mul-lt-mul-of-pos-right, lt-of-mul-lt-mul-right, eq-of-mul-eq-mul-right}
 use native.Mathlib.Omega.{arith}
 use mathlib.Core.Path.{_≡_, sym, ap, _∙_}

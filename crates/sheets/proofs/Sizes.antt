@@ -5,13 +5,13 @@ use native.Mathlib.Nat.{mul-le-mul, mul-le-mul-right, mul-le-mul-left, mul-pos, 
 use native.Mathlib.Omega.{arith}
 use mathlib.Core.Bool.{Bool, true, false}
 use mathlib.Core.Logic.{_⊎_, inl, inr}
-use mathlib.Core.Path.{_≡_, refl, sym, ap, subst, _∙_}
-use lib.Pow.{pow-pos, pow-add, pow-mono}
+use mathlib.Core.Path.{_≡_, sym, ap, subst, _∙_}
+use lib.Pow.{pow-add, pow-mono}
 use Rattle.std.proofs.shelf.Bits.{mul-lt}
 use Rattle.registers.specs.Laws.{Bits}
 use Rattle.registers.specs.Lines.{Sum}
 use Rattle.registers.proofs.Granted.{Sized, Within}
-use Rattle.registers.proofs.Near.{Near, Near30}
+use Rattle.registers.proofs.Near.{Near30}
 use Rattle.registers.proofs.Spacing.{order, spacing}
 use Rattle.sheets.proofs.RootNear.{sq-le}
 

@@ -1,5 +1,5 @@
 -- A step of a sheet by its signs: what its equation says, and that it is not refused where its exact sum is of moderate size.
-use Prim.Native.Nat.{ℕ, suc, _+_, _*_, _^_, _≤_}
+use Prim.Native.Nat.{ℕ, suc, _*_, _^_, _≤_}
 use mathlib.Core.Bool.{Bool, true, false, not, Bool·beq}
 use mathlib.Core.Logic.{_⊎_, inl, inr}
 use mathlib.Core.Path.{_≡_, refl, sym, subst}
@@ -9,7 +9,7 @@ use Rattle.std.specs.declared.result.Result.the-variants.{Ok}
 use Rattle.std.specs.Results.{isOk}
 use Rattle.registers.specs.declared.register.Choice.{Choice}
 use Rattle.registers.specs.Fused.{fused, fusedSign, fusedSize, productSign}
-use Rattle.registers.specs.Lines.{Sum, Fused-line}
+use Rattle.registers.specs.Lines.{Sum}
 use Rattle.registers.specs.Range.{bias}
 use Rattle.registers.specs.Values.{Value}
 use Rattle.registers.proofs.Granted.{Sized, step-given, within}

@@ -1,5 +1,5 @@
 -- Operands of a sheet, and what its lines have in common. Magnitudes of operands are counted in units of 2 ^ -149, those of registers in units of 2 ^ -bias.
-use Prim.Native.Nat.{ℕ, _+_, _-_, _*_, _%_, _^_, _≤_}
+use Prim.Native.Nat.{ℕ, _-_, _*_, _%_, _^_, _≤_}
 use lib.Dec.{eqb}
 use mathlib.Core.Bool.{cond}
 use mathlib.Core.Logic.{_⊎_}

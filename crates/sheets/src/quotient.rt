@@ -5,7 +5,7 @@ use crate::operand::decode::operand;
 use crate::operand::decode::register_of;
 use crate::seed::placed;
 use crate::sheet::Sheet;
-use crate::steps::bettered;
+use crate::steps::improved;
 use crate::steps::product;
 use crate::steps::residual;
 use crate::steps::residual_of_one;
@@ -46,8 +46,8 @@ fn quotient_lines<S: Source>(source: &S, a: Finite, b: Finite) -> QuotientLines
     let seed = source.reciprocal(divisor.significand);
     let y0 = Register::Nonzero(placed(seed, 149, divisor.exponent));
     let e0 = residual_of_one(d, y0);
-    let e1 = bettered(e0, e0);
-    let y1 = bettered(y0, e1);
+    let e1 = improved(e0, e0);
+    let y1 = improved(y0, e1);
     let q1 = product(x, y1, 24);
     let r1 = residual(x, d, q1);
     QuotientLines {

@@ -7,7 +7,7 @@ use crate::operand::decode::register_of;
 use crate::seed::halved;
 use crate::seed::placed;
 use crate::sheet::Sheet;
-use crate::steps::bettered;
+use crate::steps::improved;
 use crate::steps::product;
 use crate::steps::refined;
 use crate::steps::residual;
@@ -55,12 +55,12 @@ fn root_lines<S: Source>(source: &S, a: Finite) -> RootLines
     let h0 = Register::Nonzero(halved(y));
     let s0 = product(x, y0, 30);
     let d0 = residual_of_half(s0, h0);
-    let h1 = bettered(h0, d0);
-    let s1 = bettered(s0, d0);
+    let h1 = improved(h0, d0);
+    let s1 = improved(s0, d0);
     let d1 = residual_of_half(s1, h1);
     let e1 = residual(x, s1, s1);
     let s2 = refined(s1, e1, h1);
-    let h2 = bettered(h1, d1);
+    let h2 = improved(h1, d1);
     let e2 = residual(x, s2, s2);
     RootLines {
         y0,

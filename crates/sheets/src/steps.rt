@@ -69,15 +69,15 @@ pub(crate) fn residual_of_half(p: Register, q: Register) -> Register
     residual(half(), p, q)
 }
 
-/// `x + d·x`, to 30 bits: a value bettered by its relative error.
-pub(crate) fn bettered(x: Register, d: Register) -> Register
+/// `x + d·x`, to 30 bits: a value improved by its relative error.
+pub(crate) fn improved(x: Register, d: Register) -> Register
     requires { ⌜ isOk (fused 30 Plus (value x) (value d) (value x)) ≡ true ⌝ }
     ensures { λ z. ⌜ fused 30 Plus (value x) (value d) (value x) ≡ Ok (value z) ⌝ }
 {
     line(x, Choice::Plus, d, x, 30)
 }
 
-/// `s + e·h`, to 24 bits: a root bettered by its residual.
+/// `s + e·h`, to 24 bits: a root improved by its residual.
 pub(crate) fn refined(s: Register, e: Register, h: Register) -> Register
     requires { ⌜ isOk (fused 24 Plus (value s) (value e) (value h)) ≡ true ⌝ }
     ensures { λ z. ⌜ fused 24 Plus (value s) (value e) (value h) ≡ Ok (value z) ⌝ }

@@ -1,7 +1,4 @@
 use native.Mathlib.Omega.{arith}
-use mathlib.Core.Path.{_≡_, ap, sym, subst}
-use Prim.Native.Nat.{ℕ, _*_, _^_, _≤_}
-use Rattle.registers.specs.Range.{bias}
 use Rattle.registers.specs.Values.{value, numberValue}
 use Rattle.sheets.specs.Operands.{unitsOf}
 use Rattle.sheets.proofs.Placing.{root-moderate}
@@ -14,9 +11,8 @@ placed-y-requires g c κs =
     let t = c .radicand .result in
     let seeds = g .S·Source .roots (c .args .source .now) in
     let close = g .S·Source·met .«roots_close» (c .args .source .now) (t .bits) (radicand-range t) in
-    let m = root-moderate (t .bits) (seeds (t .bits)) (radicand-range t) close in
-    let e = ap (λ v. v .units) (sym (c .root-seed .ensures)) in
-    (subst (λ (n : ℕ). 2 ^ bias ≤ n * 2 ^ 150) e (m .0), (subst (λ (n : ℕ). n ≤ 2 ^ bias * 2 ^ 150) e (m .1), (omega arith, omega (arith, p .range))))
+    let m = root-moderate (t .bits) (seeds (t .bits)) (numberValue (c .root-seed .result)) (radicand-range t) close (c .root-seed .ensures) in
+    (m .0, (m .1, (omega arith, omega (arith, p .range))))
 
 pub halved-requires : need.halved-requires
 halved-requires g c κs =
@@ -47,8 +43,8 @@ residual-of-half-d0-requires g c κs =
     let s = begun seeds (unitsOf (c .args .a)) p (value (c .register-of-x .result)) (numberValue (c .placed-y .result)) (c .halved .result) r (c .register-of-x .ensures) (c .halved .ensures) in
     need-d0 seeds (unitsOf (c .args .a)) (value (c .register-of-x .result)) (numberValue (c .placed-y .result)) (numberValue (c .halved .result)) s (value (c .product-s0 .result)) (c .product-s0 .ensures)
 
-pub bettered-h1-requires : need.bettered-h1-requires
-bettered-h1-requires g c κs =
+pub improved-h1-requires : need.improved-h1-requires
+improved-h1-requires g c κs =
     let p = c .operand-form .result in
     let t = c .radicand .result in
     let seeds = g .S·Source .roots (c .args .source .now) in
@@ -57,8 +53,8 @@ bettered-h1-requires g c κs =
     let s = begun seeds (unitsOf (c .args .a)) p (value (c .register-of-x .result)) (numberValue (c .placed-y .result)) (c .halved .result) r (c .register-of-x .ensures) (c .halved .ensures) in
     need-h1 seeds (unitsOf (c .args .a)) (value (c .register-of-x .result)) (numberValue (c .placed-y .result)) (numberValue (c .halved .result)) s (value (c .product-s0 .result)) (c .product-s0 .ensures) (value (c .residual-of-half-d0 .result)) (c .residual-of-half-d0 .ensures)
 
-pub bettered-s1-requires : need.bettered-s1-requires
-bettered-s1-requires g c κs =
+pub improved-s1-requires : need.improved-s1-requires
+improved-s1-requires g c κs =
     let p = c .operand-form .result in
     let t = c .radicand .result in
     let seeds = g .S·Source .roots (c .args .source .now) in
@@ -75,7 +71,7 @@ residual-of-half-d1-requires g c κs =
     let close = g .S·Source·met .«roots_close» (c .args .source .now) (t .bits) (radicand-range t) in
     let r = seeded seeds (unitsOf (c .args .a)) p t (numberValue (c .root-seed .result)) (numberValue (c .placed-y .result)) (c .operand-form .ensures) (c .radicand .ensures) (c .root-seed .ensures) close (c .placed-y .ensures .plus) (c .placed-y .ensures .exact) in
     let s = begun seeds (unitsOf (c .args .a)) p (value (c .register-of-x .result)) (numberValue (c .placed-y .result)) (c .halved .result) r (c .register-of-x .ensures) (c .halved .ensures) in
-    need-d1 seeds (unitsOf (c .args .a)) (value (c .register-of-x .result)) (numberValue (c .placed-y .result)) (numberValue (c .halved .result)) s (value (c .product-s0 .result)) (c .product-s0 .ensures) (value (c .residual-of-half-d0 .result)) (c .residual-of-half-d0 .ensures) (value (c .bettered-h1 .result)) (c .bettered-h1 .ensures) (value (c .bettered-s1 .result)) (c .bettered-s1 .ensures)
+    need-d1 seeds (unitsOf (c .args .a)) (value (c .register-of-x .result)) (numberValue (c .placed-y .result)) (numberValue (c .halved .result)) s (value (c .product-s0 .result)) (c .product-s0 .ensures) (value (c .residual-of-half-d0 .result)) (c .residual-of-half-d0 .ensures) (value (c .improved-h1 .result)) (c .improved-h1 .ensures) (value (c .improved-s1 .result)) (c .improved-s1 .ensures)
 
 pub residual-e1-requires : need.residual-e1-requires
 residual-e1-requires g c κs =
@@ -85,7 +81,7 @@ residual-e1-requires g c κs =
     let close = g .S·Source·met .«roots_close» (c .args .source .now) (t .bits) (radicand-range t) in
     let r = seeded seeds (unitsOf (c .args .a)) p t (numberValue (c .root-seed .result)) (numberValue (c .placed-y .result)) (c .operand-form .ensures) (c .radicand .ensures) (c .root-seed .ensures) close (c .placed-y .ensures .plus) (c .placed-y .ensures .exact) in
     let s = begun seeds (unitsOf (c .args .a)) p (value (c .register-of-x .result)) (numberValue (c .placed-y .result)) (c .halved .result) r (c .register-of-x .ensures) (c .halved .ensures) in
-    need-e1 seeds (unitsOf (c .args .a)) (value (c .register-of-x .result)) (numberValue (c .placed-y .result)) (numberValue (c .halved .result)) s (value (c .product-s0 .result)) (c .product-s0 .ensures) (value (c .residual-of-half-d0 .result)) (c .residual-of-half-d0 .ensures) (value (c .bettered-h1 .result)) (c .bettered-h1 .ensures) (value (c .bettered-s1 .result)) (c .bettered-s1 .ensures)
+    need-e1 seeds (unitsOf (c .args .a)) (value (c .register-of-x .result)) (numberValue (c .placed-y .result)) (numberValue (c .halved .result)) s (value (c .product-s0 .result)) (c .product-s0 .ensures) (value (c .residual-of-half-d0 .result)) (c .residual-of-half-d0 .ensures) (value (c .improved-h1 .result)) (c .improved-h1 .ensures) (value (c .improved-s1 .result)) (c .improved-s1 .ensures)
 
 pub refined-s2-requires : need.refined-s2-requires
 refined-s2-requires g c κs =
@@ -95,17 +91,17 @@ refined-s2-requires g c κs =
     let close = g .S·Source·met .«roots_close» (c .args .source .now) (t .bits) (radicand-range t) in
     let r = seeded seeds (unitsOf (c .args .a)) p t (numberValue (c .root-seed .result)) (numberValue (c .placed-y .result)) (c .operand-form .ensures) (c .radicand .ensures) (c .root-seed .ensures) close (c .placed-y .ensures .plus) (c .placed-y .ensures .exact) in
     let s = begun seeds (unitsOf (c .args .a)) p (value (c .register-of-x .result)) (numberValue (c .placed-y .result)) (c .halved .result) r (c .register-of-x .ensures) (c .halved .ensures) in
-    need-s2 seeds (unitsOf (c .args .a)) (value (c .register-of-x .result)) (numberValue (c .placed-y .result)) (numberValue (c .halved .result)) s (value (c .product-s0 .result)) (c .product-s0 .ensures) (value (c .residual-of-half-d0 .result)) (c .residual-of-half-d0 .ensures) (value (c .bettered-h1 .result)) (c .bettered-h1 .ensures) (value (c .bettered-s1 .result)) (c .bettered-s1 .ensures) (value (c .residual-of-half-d1 .result)) (c .residual-of-half-d1 .ensures) (value (c .residual-e1 .result)) (c .residual-e1 .ensures)
+    need-s2 seeds (unitsOf (c .args .a)) (value (c .register-of-x .result)) (numberValue (c .placed-y .result)) (numberValue (c .halved .result)) s (value (c .product-s0 .result)) (c .product-s0 .ensures) (value (c .residual-of-half-d0 .result)) (c .residual-of-half-d0 .ensures) (value (c .improved-h1 .result)) (c .improved-h1 .ensures) (value (c .improved-s1 .result)) (c .improved-s1 .ensures) (value (c .residual-of-half-d1 .result)) (c .residual-of-half-d1 .ensures) (value (c .residual-e1 .result)) (c .residual-e1 .ensures)
 
-pub bettered-h2-requires : need.bettered-h2-requires
-bettered-h2-requires g c κs =
+pub improved-h2-requires : need.improved-h2-requires
+improved-h2-requires g c κs =
     let p = c .operand-form .result in
     let t = c .radicand .result in
     let seeds = g .S·Source .roots (c .args .source .now) in
     let close = g .S·Source·met .«roots_close» (c .args .source .now) (t .bits) (radicand-range t) in
     let r = seeded seeds (unitsOf (c .args .a)) p t (numberValue (c .root-seed .result)) (numberValue (c .placed-y .result)) (c .operand-form .ensures) (c .radicand .ensures) (c .root-seed .ensures) close (c .placed-y .ensures .plus) (c .placed-y .ensures .exact) in
     let s = begun seeds (unitsOf (c .args .a)) p (value (c .register-of-x .result)) (numberValue (c .placed-y .result)) (c .halved .result) r (c .register-of-x .ensures) (c .halved .ensures) in
-    need-h2 seeds (unitsOf (c .args .a)) (value (c .register-of-x .result)) (numberValue (c .placed-y .result)) (numberValue (c .halved .result)) s (value (c .product-s0 .result)) (c .product-s0 .ensures) (value (c .residual-of-half-d0 .result)) (c .residual-of-half-d0 .ensures) (value (c .bettered-h1 .result)) (c .bettered-h1 .ensures) (value (c .bettered-s1 .result)) (c .bettered-s1 .ensures) (value (c .residual-of-half-d1 .result)) (c .residual-of-half-d1 .ensures) (value (c .residual-e1 .result)) (c .residual-e1 .ensures)
+    need-h2 seeds (unitsOf (c .args .a)) (value (c .register-of-x .result)) (numberValue (c .placed-y .result)) (numberValue (c .halved .result)) s (value (c .product-s0 .result)) (c .product-s0 .ensures) (value (c .residual-of-half-d0 .result)) (c .residual-of-half-d0 .ensures) (value (c .improved-h1 .result)) (c .improved-h1 .ensures) (value (c .improved-s1 .result)) (c .improved-s1 .ensures) (value (c .residual-of-half-d1 .result)) (c .residual-of-half-d1 .ensures) (value (c .residual-e1 .result)) (c .residual-e1 .ensures)
 
 pub residual-e2-requires : need.residual-e2-requires
 residual-e2-requires g c κs =
@@ -115,7 +111,7 @@ residual-e2-requires g c κs =
     let close = g .S·Source·met .«roots_close» (c .args .source .now) (t .bits) (radicand-range t) in
     let r = seeded seeds (unitsOf (c .args .a)) p t (numberValue (c .root-seed .result)) (numberValue (c .placed-y .result)) (c .operand-form .ensures) (c .radicand .ensures) (c .root-seed .ensures) close (c .placed-y .ensures .plus) (c .placed-y .ensures .exact) in
     let s = begun seeds (unitsOf (c .args .a)) p (value (c .register-of-x .result)) (numberValue (c .placed-y .result)) (c .halved .result) r (c .register-of-x .ensures) (c .halved .ensures) in
-    need-e2 seeds (unitsOf (c .args .a)) (value (c .register-of-x .result)) (numberValue (c .placed-y .result)) (numberValue (c .halved .result)) s (value (c .product-s0 .result)) (c .product-s0 .ensures) (value (c .residual-of-half-d0 .result)) (c .residual-of-half-d0 .ensures) (value (c .bettered-h1 .result)) (c .bettered-h1 .ensures) (value (c .bettered-s1 .result)) (c .bettered-s1 .ensures) (value (c .residual-of-half-d1 .result)) (c .residual-of-half-d1 .ensures) (value (c .residual-e1 .result)) (c .residual-e1 .ensures) (value (c .refined-s2 .result)) (c .refined-s2 .ensures) (value (c .bettered-h2 .result)) (c .bettered-h2 .ensures)
+    need-e2 seeds (unitsOf (c .args .a)) (value (c .register-of-x .result)) (numberValue (c .placed-y .result)) (numberValue (c .halved .result)) s (value (c .product-s0 .result)) (c .product-s0 .ensures) (value (c .residual-of-half-d0 .result)) (c .residual-of-half-d0 .ensures) (value (c .improved-h1 .result)) (c .improved-h1 .ensures) (value (c .improved-s1 .result)) (c .improved-s1 .ensures) (value (c .residual-of-half-d1 .result)) (c .residual-of-half-d1 .ensures) (value (c .residual-e1 .result)) (c .residual-e1 .ensures) (value (c .refined-s2 .result)) (c .refined-s2 .ensures) (value (c .improved-h2 .result)) (c .improved-h2 .ensures)
 
 pub returns : need.returns
 returns g c =
@@ -126,7 +122,7 @@ returns g c =
     let r = seeded seeds (unitsOf (c .args .a)) p t (numberValue (c .root-seed .result)) (numberValue (c .placed-y .result)) (c .operand-form .ensures) (c .radicand .ensures) (c .root-seed .ensures) close (c .placed-y .ensures .plus) (c .placed-y .ensures .exact) in
     let s = begun seeds (unitsOf (c .args .a)) p (value (c .register-of-x .result)) (numberValue (c .placed-y .result)) (c .halved .result) r (c .register-of-x .ensures) (c .halved .ensures) in
     record {
-      sheet = worked seeds (unitsOf (c .args .a)) (value (c .register-of-x .result)) (numberValue (c .placed-y .result)) (numberValue (c .halved .result)) s (value (c .product-s0 .result)) (c .product-s0 .ensures) (value (c .residual-of-half-d0 .result)) (c .residual-of-half-d0 .ensures) (value (c .bettered-h1 .result)) (c .bettered-h1 .ensures) (value (c .bettered-s1 .result)) (c .bettered-s1 .ensures) (value (c .residual-of-half-d1 .result)) (c .residual-of-half-d1 .ensures) (value (c .residual-e1 .result)) (c .residual-e1 .ensures) (value (c .refined-s2 .result)) (c .refined-s2 .ensures) (value (c .bettered-h2 .result)) (c .bettered-h2 .ensures) (value (c .residual-e2 .result)) (c .residual-e2 .ensures);
-      some = some seeds (unitsOf (c .args .a)) (value (c .register-of-x .result)) (numberValue (c .placed-y .result)) (numberValue (c .halved .result)) s (value (c .product-s0 .result)) (c .product-s0 .ensures) (value (c .residual-of-half-d0 .result)) (c .residual-of-half-d0 .ensures) (value (c .bettered-h1 .result)) (c .bettered-h1 .ensures) (value (c .bettered-s1 .result)) (c .bettered-s1 .ensures) (value (c .residual-of-half-d1 .result)) (c .residual-of-half-d1 .ensures) (value (c .residual-e1 .result)) (c .residual-e1 .ensures) (value (c .refined-s2 .result)) (c .refined-s2 .ensures) (value (c .bettered-h2 .result)) (c .bettered-h2 .ensures) (value (c .residual-e2 .result)) (c .residual-e2 .ensures);
-      same-side = same-side seeds (unitsOf (c .args .a)) (value (c .register-of-x .result)) (numberValue (c .placed-y .result)) (numberValue (c .halved .result)) s (value (c .product-s0 .result)) (c .product-s0 .ensures) (value (c .residual-of-half-d0 .result)) (c .residual-of-half-d0 .ensures) (value (c .bettered-h1 .result)) (c .bettered-h1 .ensures) (value (c .bettered-s1 .result)) (c .bettered-s1 .ensures) (value (c .residual-of-half-d1 .result)) (c .residual-of-half-d1 .ensures) (value (c .residual-e1 .result)) (c .residual-e1 .ensures) (value (c .refined-s2 .result)) (c .refined-s2 .ensures) (value (c .bettered-h2 .result)) (c .bettered-h2 .ensures) (value (c .residual-e2 .result)) (c .residual-e2 .ensures);
+      sheet = worked seeds (unitsOf (c .args .a)) (value (c .register-of-x .result)) (numberValue (c .placed-y .result)) (numberValue (c .halved .result)) s (value (c .product-s0 .result)) (c .product-s0 .ensures) (value (c .residual-of-half-d0 .result)) (c .residual-of-half-d0 .ensures) (value (c .improved-h1 .result)) (c .improved-h1 .ensures) (value (c .improved-s1 .result)) (c .improved-s1 .ensures) (value (c .residual-of-half-d1 .result)) (c .residual-of-half-d1 .ensures) (value (c .residual-e1 .result)) (c .residual-e1 .ensures) (value (c .refined-s2 .result)) (c .refined-s2 .ensures) (value (c .improved-h2 .result)) (c .improved-h2 .ensures) (value (c .residual-e2 .result)) (c .residual-e2 .ensures);
+      some = some seeds (unitsOf (c .args .a)) (value (c .register-of-x .result)) (numberValue (c .placed-y .result)) (numberValue (c .halved .result)) s (value (c .product-s0 .result)) (c .product-s0 .ensures) (value (c .residual-of-half-d0 .result)) (c .residual-of-half-d0 .ensures) (value (c .improved-h1 .result)) (c .improved-h1 .ensures) (value (c .improved-s1 .result)) (c .improved-s1 .ensures) (value (c .residual-of-half-d1 .result)) (c .residual-of-half-d1 .ensures) (value (c .residual-e1 .result)) (c .residual-e1 .ensures) (value (c .refined-s2 .result)) (c .refined-s2 .ensures) (value (c .improved-h2 .result)) (c .improved-h2 .ensures) (value (c .residual-e2 .result)) (c .residual-e2 .ensures);
+      same-side = same-side seeds (unitsOf (c .args .a)) (value (c .register-of-x .result)) (numberValue (c .placed-y .result)) (numberValue (c .halved .result)) s (value (c .product-s0 .result)) (c .product-s0 .ensures) (value (c .residual-of-half-d0 .result)) (c .residual-of-half-d0 .ensures) (value (c .improved-h1 .result)) (c .improved-h1 .ensures) (value (c .improved-s1 .result)) (c .improved-s1 .ensures) (value (c .residual-of-half-d1 .result)) (c .residual-of-half-d1 .ensures) (value (c .residual-e1 .result)) (c .residual-e1 .ensures) (value (c .refined-s2 .result)) (c .refined-s2 .ensures) (value (c .improved-h2 .result)) (c .improved-h2 .ensures) (value (c .residual-e2 .result)) (c .residual-e2 .ensures);
     }

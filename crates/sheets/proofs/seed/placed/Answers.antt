@@ -1,7 +1,7 @@
 use native.Mathlib.Omega.{arith}
-use mathlib.Core.Path.{_≡_, refl, ap, _∙_}
-use Prim.Native.Nat.{ℕ, _+_, _-_, _*_, _^_, _≤_}
-use Rattle.registers.specs.Range.{bias, bias-is}
+use mathlib.Core.Path.{ap, _∙_}
+use Prim.Native.Nat.{_+_, _-_, _*_, _^_, _≤_}
+use Rattle.registers.specs.Range.{bias-is}
 use Rattle.sheets.proofs.Placing.{exponent-above, exponent-below, moved}
 use Rattle.sheets.proofs.seed.placed.Needs as need
 

@@ -1,6 +1,5 @@
 use native.Mathlib.Omega.{arith}
-use mathlib.Core.Path.{ap, sym, subst}
-use Rattle.registers.specs.Range.{lowest}
+use mathlib.Core.Path.{ap}
 use Rattle.sheets.proofs.Decoding.{exponent-least, exponent-most, first-bits}
 use Rattle.sheets.proofs.operand.decode.operand.Needs as need
 

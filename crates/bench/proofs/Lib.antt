@@ -1,0 +1,9 @@
+pub mod Decoded
+pub mod Verdicts
+pub mod Dividing
+pub mod Nearing
+pub mod Exactness
+pub mod Fusing
+pub mod Closes
+pub mod Cutting
+pub mod Counting

@@ -1,0 +1,11 @@
+pub mod Raised
+pub mod Kinds
+pub mod Tables
+pub mod Remainders
+pub mod Values
+pub mod Calls
+pub mod Worked
+pub mod Refused
+pub mod Counts
+pub mod Worksheets
+pub mod Benches
