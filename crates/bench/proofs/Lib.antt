@@ -7,3 +7,4 @@ pub mod Fusing
 pub mod Closes
 pub mod Cutting
 pub mod Counting
+pub mod UnitQuotient

@@ -5,13 +5,19 @@ use crate::refusal::Refusal;
 use registers::Finite;
 use registers::Mode;
 use registers::Pattern;
+use registers::Rounded;
+use sheets::Closing;
 use sheets::Sheet;
 use sheets::fill_quotient;
 use sources::Source;
 ghost use Prim.Native.Nat.{_*_, _/_, _%_, _^_, _<_, _≤_};
 ghost use lib.IntN.{natAbs};
+ghost use mathlib.Core.Bool.{false};
 ghost use mathlib.Core.Path.{_≡_};
-ghost use Rattle.registers.specs.Coding.{finite, finiteMeaning};
+ghost use Rattle.registers.specs.declared.mode.Mode.the-variants.{TowardZero as TowardZeroCase};
+ghost use Rattle.registers.specs.Binary32.{besideWhole};
+ghost use Rattle.registers.specs.Modes.{rounded};
+ghost use Rattle.sheets.specs.Closed.{closingSize};
 ghost use Rattle.sheets.specs.Written.{values};
 ghost use Rattle.bench.specs.Counts.{countAnswer, countRefusal, counted, isBelowZero, withSignℤ};
 ghost use Rattle.bench.specs.Kinds.{units, unsigned};
@@ -62,6 +68,13 @@ fn cut(p: Pattern) -> u32
     }
 }
 
+/// A closing value rounded toward zero.
+fn toward_zero(closing: Closing) -> Rounded
+    ensures { λ r. ⌜ r ≡ rounded TowardZeroCase false (besideWhole (closingSize closing)) ⌝ }
+{
+    closing.round(false, Mode::TowardZero)
+}
+
 /// The quotient of magnitudes other than zero, from their sheet.
 fn quotient_of<S: Source>(sheet: &mut Sheet, source: &S, m: u32, n: u32) -> u32
     requires { ⌜ 0 < m ⌝ ∗ ⌜ m < 2 ^ 24 ⌝ ∗ ⌜ 0 < n ⌝ ∗ ⌜ n < 2 ^ 24 ⌝ }
@@ -69,7 +82,7 @@ fn quotient_of<S: Source>(sheet: &mut Sheet, source: &S, m: u32, n: u32) -> u32
     ensures sheet { λ r. ⌜ Count-closes (S·Source .reciprocals (now (source .entry))) m n (values (now (sheet .exit))) r ⌝ }
 {
     let closing = fill_quotient(source, whole_number(m), whole_number(n), sheet);
-    cut(closing.round(false, Mode::TowardZero).pattern)
+    cut(toward_zero(closing).pattern)
 }
 
 /// The quotient of magnitudes. A dividend of zero leaves no line.
@@ -105,6 +118,7 @@ fn signed(negative: bool, magnitude: u32) -> i32
     }
 }
 
+/// Whether a whole number is below zero.
 fn is_below_zero(a: i32) -> bool
     ensures { λ r. ⌜ r ≡ isBelowZero a ⌝ }
 {

@@ -16,36 +16,42 @@ pub(crate) fn unsigned(p: Pattern) -> u32
     p.bits() % 0x8000_0000
 }
 
+/// Whether the sign bit is set.
 pub(crate) fn is_negative(p: Pattern) -> bool
     ensures { λ r. ⌜ r ≡ isNegative p ⌝ }
 {
     p.bits() >= 0x8000_0000
 }
 
+/// Whether it is a NaN.
 pub(crate) fn is_nan(p: Pattern) -> bool
     ensures { λ r. ⌜ r ≡ isNan p ⌝ }
 {
     unsigned(p) > INFINITY
 }
 
+/// Whether it is a signalling NaN: one whose bit 22 is not set.
 pub(crate) fn is_signalling(p: Pattern) -> bool
     ensures { λ r. ⌜ r ≡ isSignalling p ⌝ }
 {
     (unsigned(p) > INFINITY) & (p.bits() / 0x40_0000 % 2 != 1)
 }
 
+/// Whether it is an infinity.
 pub(crate) fn is_infinite(p: Pattern) -> bool
     ensures { λ r. ⌜ r ≡ isInfinite p ⌝ }
 {
     unsigned(p) == INFINITY
 }
 
+/// Whether it is a zero.
 pub(crate) fn is_zero(p: Pattern) -> bool
     ensures { λ r. ⌜ r ≡ isZero p ⌝ }
 {
     unsigned(p) == 0
 }
 
+/// Whether it is a number other than zero below `2^-126`.
 pub(crate) fn is_subnormal(p: Pattern) -> bool
     ensures { λ r. ⌜ r ≡ isSubnormal p ⌝ }
 {
@@ -59,12 +65,14 @@ pub(crate) fn signs_differ(p: Pattern, q: Pattern) -> bool
     is_negative(p) != is_negative(q)
 }
 
+/// The infinity of a sign.
 pub(crate) fn infinity(negative: bool) -> Pattern
     ensures { λ r. ⌜ r ≡ infinityOf negative ⌝ }
 {
     Datum::Infinity { negative }.encode()
 }
 
+/// The zero of a sign.
 pub(crate) fn zero(negative: bool) -> Pattern
     ensures { λ r. ⌜ r ≡ zeroOf negative ⌝ }
 {

@@ -25,7 +25,7 @@ enum Named {
 }
 
 /// The source named by the one word after the program's name.
-fn named(rt: &LibcRuntime) -> Result<Option<Named>, AnyError> {
+fn source_of(rt: &LibcRuntime) -> Result<Option<Named>, AnyError> {
     let mut words = env::args(rt)?.skip(1);
     let Some(word) = words.next() else {
         return Ok(None);
@@ -51,7 +51,7 @@ fn over(heap: Global, source: Named, list: &[u8]) -> Result<String, AllocError> 
 }
 
 fn main(rt: LibcRuntime) -> Result<(), AnyError> {
-    let Some(source) = named(&rt)? else {
+    let Some(source) = source_of(&rt)? else {
         eprintln!(
             rt,
             "usage: calls table|line, with a list of calls on standard input"

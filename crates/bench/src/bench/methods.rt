@@ -60,14 +60,16 @@ impl<S: Source> Bench<S> {
     pub fn mode(&self) -> Mode
         ensures { λ r. ⌜ r ≡ standingMode (now (self .entry)) ⌝ }
     {
-        self.standing.mode
+        let ModeRecord { mode } = self.standing;
+        mode
     }
 
     /// The flags that are up.
     pub fn flags(&self) -> Flags
         ensures { λ r. ⌜ r ≡ now (self .entry) .flags ⌝ }
     {
-        self.flags
+        let raised = self.flags;
+        raised
     }
 
     /// How many lines the sheet has.
