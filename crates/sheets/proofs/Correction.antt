@@ -1,5 +1,5 @@
 -- A value c corrected by its residual: c + x·h, where x is what r leaves over p, rounded, with its sign.
-use Prim.Native.Nat.{ℕ, zero, _+_, _*_, _^_, _<_}
+use Prim.Native.Nat.{ℕ, zero, _+_, _*_, _^_, _≤_, _<_}
 use native.Mathlib.Nat.{le-of-mul-le-mul-right, le-dest, mul-pos}
 use native.Mathlib.Omega.{arith}
 use mathlib.Core.Bool.{Bool, true, false}
@@ -18,6 +18,17 @@ Correction W r p c h x n N = ((n + p ≡ r) × (N ≡ c * W + x * h)) ⊎ ((n + 
 pub left-over : (r p n : ℕ) (s : Bool) → s ≡ true → Sum false r true p s n → n + r ≡ p
 left-over r p n true h e = omega (arith, e)
 left-over r p n false h e = absurd (true≢false (sym h))
+
+-- a sum is at most both terms together
+pub sum-most : (a b s : Bool) (x y n : ℕ) → Sum a x b y s n → n ≤ x + y
+sum-most false false false x y n e = omega (arith, e)
+sum-most false false true x y n e = omega (arith, e)
+sum-most false true false x y n e = omega (arith, e)
+sum-most false true true x y n e = omega (arith, e)
+sum-most true false false x y n e = omega (arith, e)
+sum-most true false true x y n e = omega (arith, e)
+sum-most true true false x y n e = omega (arith, e)
+sum-most true true true x y n e = omega (arith, e)
 
 -- c + x, with x of a sign, is above zero where c outweighs x
 pub sum-plus : (c x : ℕ) (s t : Bool) (N : ℕ) → zero < c → (s ≡ true → x < c) → Sum false c s x t N → t ≡ false

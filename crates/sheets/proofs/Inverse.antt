@@ -10,6 +10,7 @@ use Rattle.registers.specs.Lines.{Sum}
 use Rattle.registers.proofs.Near.{Near, Near30}
 use Rattle.registers.proofs.Spacing.{Rounded}
 use Rattle.registers.proofs.Signs.{Line, true≢false, upright, upright-sign}
+use Rattle.sheets.proofs.Correction.{sum-most}
 
 -- e0 stands within a 399th of one
 pub small : (W E N : ℕ) → zero < W → 400 * N ≤ W * W → Near30 N (E * W) → 399 * E ≤ W
@@ -110,13 +111,7 @@ module _ {W B Y0 : ℕ} (c : Close W B Y0) {s0 : Bool} {E0 : ℕ} (f0 : Line 30 
 
   module _ {s1 : Bool} {E1 : ℕ} (f1 : Line 30 W s0 E0 false (E0 * E0) s1 E1) where
     pub e1-small : 2 * E1 ≤ W
-    e1-small = le-of-mul-le-mul-right {k = W} (by-sign s0 s1 (f1 .sum)) one
-      where
-        by-sign : (s t : Bool) → Sum s (E0 * W) false (E0 * E0) t (f1 .n) → 2 * E1 * W ≤ W * W
-        by-sign false false e = omega (arith, f1 .line .near .0, mul-le-mul-right W e0-small, mul-le-mul-left E0 e0-small)
-        by-sign false true e = omega (arith, f1 .line .near .0, mul-le-mul-right W e0-small, mul-le-mul-left E0 e0-small)
-        by-sign true false e = omega (arith, f1 .line .near .0, mul-le-mul-right W e0-small, mul-le-mul-left E0 e0-small)
-        by-sign true true e = omega (arith, f1 .line .near .0, mul-le-mul-right W e0-small, mul-le-mul-left E0 e0-small)
+    e1-small = le-of-mul-le-mul-right {k = W} (omega (arith, sum-most s0 false s1 (E0 * W) (E0 * E0) (f1 .n) (f1 .sum), f1 .line .near .0, mul-le-mul-right W e0-small, mul-le-mul-left E0 e0-small)) one
 
     less : E1 * Y0 < Y0 * W
     less = omega (arith, mul-le-mul-right Y0 e1-small, mul-pos (c .some) one)

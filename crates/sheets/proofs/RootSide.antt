@@ -92,7 +92,7 @@ module _ (w W A H C S E N : ℕ)
         | inr h ↦ fine G (subst (λ p. G < 2 ^ 24 * p) (sym place) h)
       ]
 
-    -- the root: s + e h stands to a number of 25 bits as the root of a does
+    -- at every place
     pub root-side : (A′ α : ℕ) → A * W ≡ A′ * 2 ^ α → 2 ^ 23 ≤ A′ → A′ < 2 ^ 24 → 26 ≤ α
         → (G : ℕ) → Bits 25 G → Side (A * W) (G * G) N (G * W)
     root-side A′ α ha la ta room = let c = choose-root (A * W) A′ α ha la ta room in side-at (c .0) (2 ^ c .0) (c .1) (c .2) refl (c .3) (c .4) (c .5) (c .6)

@@ -13,6 +13,7 @@ use Rattle.registers.specs.Lines.{Sum}
 use Rattle.registers.proofs.Granted.{Sized, Within}
 use Rattle.registers.proofs.Near.{Near30}
 use Rattle.registers.proofs.Spacing.{order, spacing}
+use Rattle.sheets.proofs.Correction.{sum-most}
 use Rattle.sheets.proofs.RootNear.{sq-le}
 
 -- ---- bits
@@ -78,16 +79,10 @@ module _ (W : ℕ) (pos : zero < W) where
 
   -- e + e·e, where e comes from an exact sum n0
   pub square-size : (n0 E : ℕ) (s t : Bool) (n : ℕ) → Sized W 54 n0 → Near30 n0 (E * W) → 399 * E ≤ W → Sum s (E * W) false (E * E) t n → Sized W 56 n
-  square-size n0 E s t n (inl z) r sm e = inl (flat s t e)
+  square-size n0 E s t n (inl z) r sm e = inl (omega (arith, nothing, sum-most s false t (E * W) (E * E) n e, mul-le-mul-left E sm))
     where
       nothing : E * W ≡ zero
       nothing = omega (arith, r .0, z)
-
-      flat : (s t : Bool) → Sum s (E * W) false (E * E) t n → n ≡ zero
-      flat false false e = omega (arith, nothing, mul-le-mul-left E sm)
-      flat false true e = omega (arith, nothing, mul-le-mul-left E sm)
-      flat true false e = omega (arith, nothing, mul-le-mul-left E sm)
-      flat true true e = omega (arith, nothing, mul-le-mul-left E sm)
   square-size n0 E s t n (inr b) r sm e = go s t e
     where
       sq : E * (399 * E) ≤ E * W

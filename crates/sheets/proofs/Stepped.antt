@@ -15,7 +15,7 @@ use Rattle.registers.specs.Values.{Value}
 use Rattle.registers.proofs.Granted.{Sized, step-given, within}
 use Rattle.registers.proofs.Near.{Near}
 use Rattle.registers.proofs.Related.{fused-line, sum-of}
-use Rattle.registers.proofs.Signs.{Line, line-of}
+use Rattle.registers.proofs.Signs.{Line, line-of, true≢false}
 use Rattle.sheets.specs.Operands.{Moderate}
 use Rattle.sheets.proofs.Sizes.{wider}
 
@@ -31,10 +31,7 @@ wide = inr refl
 
 -- signs of products
 pub with-plus : (s t : Bool) → t ≡ false → not (Bool·beq s t) ≡ s
-with-plus s true e = absurd-true e
-  where
-    absurd-true : true ≡ false → not (Bool·beq s true) ≡ s
-    absurd-true e = cc
+with-plus s true e = absurd (true≢false e)
 with-plus true false e = refl
 with-plus false false e = refl
 
@@ -49,7 +46,7 @@ with-itself false = refl
 pub both-plus : (s t : Bool) → s ≡ false → t ≡ false → Bool·beq s t ≡ true
 both-plus false false e f = refl
 both-plus false true e f = sym f
-both-plus true t e f = cc
+both-plus true t e f = absurd (true≢false e)
 
 -- the exact sum of a step, with the signs of its two terms
 pub exact-sum : (choice : Choice) (r p q : Value) (s t : Bool) → r .negative ≡ s → productSign choice p q ≡ t
