@@ -1,5 +1,5 @@
 -- The closing value of a sheet rounds as the exact value does: the same facts over the units of the patterns that the operands stand for.
-use mathlib.Core.Path.{_≡_, sym, ap, subst, _∙_}
+use mathlib.Core.Path.{_≡_, ap, subst, _∙_}
 use mathlib.Core.Bool.{Bool}
 use mathlib.Core.List.{List, [], map}
 use Prim.Native.Nat.{ℕ, Ordering}

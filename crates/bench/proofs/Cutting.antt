@@ -1,32 +1,27 @@
 -- A quotient of whole numbers rounded toward zero to binary32 has the quotient cut toward zero as its whole part, since that is a binary32 number not above it.
-use mathlib.Core.Path.{_≡_, refl, sym, ap, subst, _∙_}
+use mathlib.Core.Path.{_≡_, refl, sym, ap, _∙_}
 use mathlib.Core.Logic.{inl, inr}
-use mathlib.Core.Bool.{Bool, true, false, cond}
-use Prim.Native.Nat.{ℕ, _+_, _-_, _*_, _/_, _%_, _^_, _≤_, _<_, compare, Ordering, Ordering·lt}
-use native.Mathlib.Nat.{mul-assoc, mul-comm, mul-le-mul-right, mul-le-mul-left, mul-lt-mul-of-pos-right, mul-pos, le-of-mul-le-mul-right, div-add-mod', mod-lt, zero-mul, le-antisymm, lt-of-lt-of-le, div-le-self, mul-le-mul, mul-div-mul-right, div-eq-of-lt}
+use mathlib.Core.Bool.{true, false}
+use Prim.Native.Nat.{ℕ, _+_, _-_, _*_, _/_, _%_, _^_, _≤_, _<_, Ordering}
+use native.Mathlib.Nat.{mul-le-mul-right, mul-le-mul-left, mul-pos, div-add-mod', mod-lt, le-antisymm, lt-of-lt-of-le, div-le-self, mul-le-mul, mul-div-mul-right, div-eq-of-lt}
 use native.Mathlib.Omega.{arith}
-use lib.Dec.{isLe, leb}
+use lib.Dec.{isLe}
 use lib.Pow.{pow-pos, pow-add, pow-mono}
-use Rattle.std.proofs.shelf.Tests.{cases-lt, le-leb, lt-leb, leb-true, leb-false, both-ways}
+use Rattle.std.proofs.shelf.Tests.{cases-lt, le-leb, lt-leb, leb-true, both-ways}
 use Rattle.registers.specs.declared.mode.Mode.the-variants.{TowardZero}
 use Rattle.registers.specs.declared.pattern.Pattern.{Pattern}
-use Rattle.registers.specs.Binary32.{magnitude, grid32}
+use Rattle.registers.specs.declared.mode.Rounded.{Rounded}
+use Rattle.registers.specs.Binary32.{magnitude, grid32, besideWhole}
 use Rattle.registers.specs.Coding.{encoded}
 use Rattle.registers.specs.Modes.{rounded, wayOf}
 use Rattle.registers.specs.Rightly.{ByInward, Ordered, Right-rounding, placeOf}
-use Rattle.registers.proofs.Compared.{cmp-lt}
-use Rattle.registers.proofs.Encodings.{encoded-number, unsigned-of}
+use Rattle.registers.proofs.Encodings.{encoded-number}
 use Rattle.registers.proofs.Grids.{magnitude-step, rising-mono}
 use Rattle.registers.proofs.Standing.{right-rounding}
-use Rattle.sheets.specs.Beside.{besideQuotient}
+use Rattle.sheets.specs.Beside.{Same-rounding, besideQuotient}
 use Rattle.bench.specs.Kinds.{units, unsigned}
-
--- a positive quotient is told by comparison
-pub quotient-ordered : (a b : ℕ) → 0 < a → 0 < b → Ordered (besideQuotient a b)
-quotient-ordered a b some part = record {
-  positive = cmp-lt (0 * b) (a * 2 ^ 324) (subst (λ (x : ℕ). x < a * 2 ^ 324) (sym (zero-mul b)) (mul-pos some (pow-pos 324)));
-  down = λ m n l e. cmp-lt (m * b) (a * 2 ^ 324) (lt-of-lt-of-le (mul-lt-mul-of-pos-right l part) (leb-true (n * b) (a * 2 ^ 324) e));
-}
+use Rattle.bench.proofs.Closes.{quotient-value, rounds-as}
+use Rattle.bench.proofs.Comparing.{quotient-ordered}
 
 -- the whole part of a pattern's magnitude is the quotient of m by n, cut toward zero
 pub record Cut (m n : ℕ) (p : Pattern) : Type 0 where
@@ -137,6 +132,11 @@ module _ (m n : ℕ) (some : 0 < m) (few : m < 2 ^ 24) (part : 0 < n) (small : n
       let u : unsigned p ≡ place = ap (λ (x : ℕ). x % 2 ^ 31) b ∙ omega (arith, finite) in
       let v : units p ≡ magnitude place = ap magnitude u in
       record { finite = omega (arith, u, finite); bounded = omega (arith, v, small-place); whole = ap (λ (x : ℕ). x / 2 ^ 149) v ∙ cut-is }
+
+-- the closing value of m by n, rounded toward zero
+pub closing-cut : (m n A B : ℕ) → 0 < m → m < 2 ^ 24 → 0 < n → n < 2 ^ 24 → A ≡ m * 2 ^ 149 → B ≡ n * 2 ^ 149 → (closing : ℕ) (r : Rounded) → r ≡ rounded TowardZero false (besideWhole closing) → Same-rounding (besideWhole closing) (besideQuotient A B) → Cut m n (r .pattern)
+closing-cut m n A B some few part small a b closing r is same =
+    cut-of m n some few part small (r .pattern) (ap (λ (v : Rounded). v .pattern) (rounds-as TowardZero false false refl closing r is (besideQuotient A B) (besideQuotient (m * 2 ^ 149) (n * 2 ^ 149)) same (quotient-value A B (m * 2 ^ 149) (n * 2 ^ 149) a b)))
 
 -- ---- the whole part of a number of s times 2 ^ e units
 

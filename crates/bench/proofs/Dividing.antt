@@ -1,16 +1,15 @@
 -- Division by doubling, and the nearest step at its end.
-use mathlib.Core.Path.{_≡_, refl, sym, ap, _∙_}
+use mathlib.Core.Path.{_≡_, sym, ap, _∙_}
 use mathlib.Core.Logic.{_⊎_, inl, inr}
 use mathlib.Core.Bool.{Bool, true, false, cond}
-use Prim.Native.Nat.{ℕ, suc, _+_, _-_, _*_, _/_, _%_, _^_, _≤_, _<_}
-use native.Mathlib.Nat.{add-mul, mul-assoc, mul-one, one-mul, mul-add, div-add-mod', mod-lt, mul-div-mul-right, two-pow-succ, mul-le-mul-right, mul-lt-mul-of-pos-right, mod-eq-of-lt}
+use Prim.Native.Nat.{ℕ, _+_, _-_, _*_, _/_, _%_, _^_, _≤_, _<_}
+use native.Mathlib.Nat.{add-mul, mul-assoc, one-mul, mul-add, div-add-mod', mod-lt, two-pow-succ, mul-le-mul-right, mul-lt-mul-of-pos-right, mod-eq-of-lt}
 use native.Mathlib.Omega.{arith}
 use lib.Arith.{digits-div, digits-mod}
 use lib.Dec.{eqb, ltb, leb}
-use lib.Pow.{pow-pos, pow-mono, pow-add, shl-lt}
+use lib.Pow.{pow-pos, pow-mono, pow-add}
 use Rattle.std.proofs.shelf.Tests.{le-leb, lt-leb, eq-eqb, ne-eqb, eqb-true, eqb-false, lt-ltb, le-ltb, ltb-true, ltb-false, cases-lt, cases-eq}
 use Rattle.registers.specs.Binary32.{isOdd}
-use Rattle.registers.specs.Nearest.{upward}
 use Rattle.registers.proofs.Nearness.{upward-over, upward-tie, upward-under, upward-scale}
 use Rattle.registers.proofs.Adding.{sub-mul}
 use Rattle.bench.specs.Remainders.{nearestQuotient, remainderSize, remainderTurned}

@@ -1,7 +1,7 @@
 -- A magnitude of binary32 rounds to its own pattern in every mode, with no flag: the search finds it, and it lies on it.
 use mathlib.Core.Path.{_≡_, sym, ap, _∙_}
 use mathlib.Core.Bool.{Bool, true, false}
-use Prim.Native.Nat.{ℕ, _+_, _*_, _^_, _≤_, _<_, Ordering, Ordering·eq, compare}
+use Prim.Native.Nat.{ℕ, _+_, _*_, _^_, _≤_, _<_, Ordering, Ordering·eq}
 use native.Mathlib.Omega.{arith}
 use lib.Dec.{isLe}
 use Rattle.std.proofs.shelf.Tests.{le-leb, lt-leb}

@@ -1,21 +1,20 @@
 -- The sum of register numbers that stand for finite patterns, beside the sum of the patterns in units of 2 ^ -298: a sum does not turn on the unit, and the sign of a zero is of no account in a sum other than zero.
 use mathlib.Core.Path.{_≡_, refl, sym, ap, subst, _∙_}
 use mathlib.Core.Logic.{_⊎_, inl, inr}
-use mathlib.Core.Bool.{Bool, true, false, not, cond, _&&_, Bool·beq}
-use Prim.Native.Nat.{ℕ, _+_, _-_, _*_, _^_, _≤_, _<_, compare, Ordering}
+use mathlib.Core.Bool.{Bool, true, false, not, cond, Bool·beq}
+use Prim.Native.Nat.{ℕ, _+_, _-_, _*_, _^_, _≤_, _<_, compare}
 use native.Mathlib.Nat.{mul-assoc, zero-mul, mul-zero, mul-pos, mul-lt-mul-of-pos-right}
 use native.Mathlib.Omega.{arith}
 use lib.Dec.{eqb, ltb}
 use lib.Pow.{pow-pos, pow-add}
 use Rattle.std.proofs.shelf.Tests.{lt-ltb, le-ltb, eq-eqb, ne-eqb, eqb-true, eqb-false, cases-lt, cases-eq, cases-order}
-use Rattle.std.specs.declared.option.Option.{Option}
 use Rattle.std.specs.declared.option.Option.the-variants.{Some, None}
 use Rattle.registers.specs.declared.mode.Mode.{Mode}
 use Rattle.registers.specs.declared.mode.Rounded.{Rounded}
 use Rattle.registers.specs.declared.mode.Mode.the-variants.{NearestEven, Down, Up, TowardZero}
 use Rattle.registers.specs.declared.pattern.Pattern.{Pattern}
 use Rattle.registers.specs.declared.register.Choice.the-variants.{Plus}
-use Rattle.registers.specs.Binary32.{Unsigned, magnitude, rounding, placeOn, isTiny, seek, gridWide, besideWhole}
+use Rattle.registers.specs.Binary32.{magnitude, rounding, placeOn, isTiny, seek, gridWide, besideWhole}
 use Rattle.registers.specs.Fused.{fusedSize, fusedSign, productSign}
 use Rattle.registers.specs.Modes.{fusedRounded, rounded, underSign, wayOf}
 use Rattle.registers.specs.Range.{bias, bias-is}
@@ -26,7 +25,7 @@ use Rattle.registers.proofs.Compared.{cmp-lt, cmp-eq, cmp-gt}
 use Rattle.registers.proofs.Grids.{rounding-alike}
 use Rattle.registers.proofs.Scaling.{product-size}
 use Rattle.bench.specs.Kinds.{isNegative, units, signsDiffer}
-use Rattle.bench.specs.Values.{besideExact, fuseSize, fuseSign, isDown, zeroSign, zeroRounded}
+use Rattle.bench.specs.Values.{besideExact, fuseSize, fuseSign, zeroSign, zeroRounded}
 
 -- ---- the sign of a zero is of no account
 
@@ -85,14 +84,18 @@ rounded-in-units mode s n = ap (underSign s) (rounding-alike (besideWhole (n * 2
         ap (compare (m * 2 ^ (2 * bias - 324))) (raise-parts n 26 (2 * bias - 324) (2 * bias - 298) (omega (arith, bias-is)))
         ∙ compare-scaled m (n * 2 ^ 26) (2 ^ (2 * bias - 324)) (pow-pos (2 * bias - 324))
 
-nothing : (mode : Mode) (s : Bool) → rounding (wayOf mode s) (besideExact 0) ≡ record { pattern = 0; inexact = false; overflow = false; underflow = false }
+magnitude-nothing : (mode : Mode) (s : Bool) → rounding (wayOf mode s) (besideExact 0) ≡ record { pattern = 0; inexact = false; overflow = false; underflow = false }
 unfolding rounding placeOn isTiny magnitude gridWide seek
-nothing NearestEven s = refl
-nothing Down true = refl
-nothing Down false = refl
-nothing Up true = refl
-nothing Up false = refl
-nothing TowardZero s = refl
+magnitude-nothing NearestEven s = refl
+magnitude-nothing Down true = refl
+magnitude-nothing Down false = refl
+magnitude-nothing Up true = refl
+magnitude-nothing Up false = refl
+magnitude-nothing TowardZero s = refl
+
+-- a value of zero is its own rounding
+pub nothing : (mode : Mode) (s : Bool) → rounded mode s (besideExact 0) ≡ zeroRounded s
+nothing mode s = ap (underSign s) (magnitude-nothing mode s)
 
 -- ---- the rounded sum of the step
 
@@ -170,5 +173,5 @@ module _ (p q r : Pattern) (vp vq vr : Value) (hp : Held p vp) (hq : Held q vq) 
   fuse-none e =
       let m : fuseSize p q r * 2 ^ (2 * bias - 298) ≡ 0 = sym (sums .0) ∙ none-is mode (fusedSign Plus vr vp vq) (fusedSize Plus vr vp vq) e in
       let n : fuseSize p q r ≡ 0 = elim (cases-lt 0 (fuseSize p q r)) [ inl l ↦ absurd (omega (arith, mul-pos l (pow-pos (2 * bias - 298)))) | inr g ↦ omega arith ] in
-      ap zeroRounded (sym (sign-none n)) ∙ ap (underSign (fuseSign mode p q r)) (sym (nothing mode (fuseSign mode p q r)))
+      ap zeroRounded (sym (sign-none n)) ∙ sym (nothing mode (fuseSign mode p q r))
       ∙ ap (λ (x : ℕ). rounded mode (fuseSign mode p q r) (besideExact (x * 2 ^ 26))) (sym n)

@@ -5,6 +5,7 @@ pub mod Nearing
 pub mod Exactness
 pub mod Fusing
 pub mod Closes
+pub mod Comparing
 pub mod Cutting
 pub mod Counting
 pub mod UnitQuotient

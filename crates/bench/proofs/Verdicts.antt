@@ -1,6 +1,6 @@
 -- How an answer follows from its table, and what it says of the operands that no row decides.
-use mathlib.Core.Path.{_≡_, refl, sym, ap, _∙_}
-use mathlib.Core.Bool.{Bool, true, false, not, cond, _&&_, _||_, Bool·beq}
+use mathlib.Core.Path.{_≡_, refl, ap, _∙_}
+use mathlib.Core.Bool.{Bool, true, false, not, _&&_, _||_, Bool·beq}
 use Prim.Native.Nat.{ℕ, _≤_, _<_}
 use native.Mathlib.Omega.{arith}
 use Rattle.std.proofs.shelf.Tests.{ltb-false, eqb-false, or-parts}
@@ -8,7 +8,6 @@ use Rattle.std.specs.declared.option.Option.{Option}
 use Rattle.std.specs.declared.option.Option.the-variants.{Some, None}
 use Rattle.registers.specs.declared.mode.Rounded.{Rounded}
 use Rattle.registers.specs.declared.pattern.Pattern.{Pattern}
-use Rattle.bench.specs.declared.answer.Answer.{Answer}
 use Rattle.bench.specs.declared.answer.Special.{Special}
 use Rattle.bench.specs.declared.answer.Special.the-variants.{Invalid, Quiet, Given, ByZero}
 use Rattle.bench.specs.Kinds.{isNegative, isNan, isSignalling, isInfinite, isZero, signsDiffer, unsigned}

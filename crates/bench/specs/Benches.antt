@@ -1,5 +1,4 @@
 -- What the calls make of a bench.
-use Prim.Native.Nat.{ℕ}
 use mathlib.Core.Path.{_≡_}
 use mathlib.Core.List.{[]}
 use Rattle.std.specs.declared.option.Option.{Option}
@@ -8,7 +7,6 @@ use Rattle.std.specs.declared.result.Result.{Result}
 use Rattle.std.specs.declared.result.Result.the-variants.{Ok, Err}
 use Rattle.registers.specs.declared.mode.Mode.{Mode}
 use Rattle.registers.specs.declared.mode.Mode.the-variants.{NearestEven}
-use Rattle.registers.specs.Modes.{modeOf}
 use Rattle.sheets.specs.Written.{written}
 use Rattle.bench.specs.declared.bench.Bench.{Bench}
 use Rattle.bench.specs.declared.flags.Flags.{Flags}

@@ -1,5 +1,5 @@
 -- What fuse, divide, root and remainder answer, with the flags that they raise: from the mode and the patterns alone.
-use Prim.Native.Nat.{ℕ, _*_, _^_}
+use Prim.Native.Nat.{_*_, _^_}
 use mathlib.Core.Bool.{false, _||_}
 use Rattle.registers.specs.declared.pattern.Pattern.{Pattern}
 use Rattle.registers.specs.declared.mode.Mode.{Mode}

@@ -3,6 +3,7 @@ pub mod Kinds
 pub mod Tables
 pub mod Remainders
 pub mod Values
+pub mod Told
 pub mod Calls
 pub mod Worked
 pub mod Refused

@@ -10,7 +10,7 @@ use sheets::Closing;
 use sheets::Sheet;
 use sheets::fill_quotient;
 use sources::Source;
-ghost use Prim.Native.Nat.{_*_, _/_, _%_, _^_, _<_, _≤_};
+ghost use Prim.Native.Nat.{_*_, _/_, _%_, _^_, _<_};
 ghost use lib.IntN.{natAbs};
 ghost use mathlib.Core.Bool.{false};
 ghost use mathlib.Core.Path.{_≡_};

@@ -1,6 +1,6 @@
 use mathlib.Core.Path.{_≡_, sym, ap, _∙_}
 use Prim.Native.Nat.{ℕ, _/_, _%_}
-use lib.IntN.{ℤ, natAbs}
+use lib.IntN.{natAbs}
 use Rattle.bench.specs.Counts.{counted}
 use Rattle.bench.proofs.Counting.{below-zero, differ, lines-as, magnitude-is, magnitude-of, pair-is, signed-is}
 use Rattle.bench.proofs.count.count_in_range.Needs as need
