@@ -2,8 +2,9 @@
 use Prim.Native.Nat.{ℕ, _+_, _-_, _*_, _^_}
 use mathlib.Core.Bool.{cond}
 use mathlib.Core.List.{List}
-use lib.Dec.{eqb, ltb}
-use lib.ListN.{length}
+use lib.Dec.{eqb, leb, ltb}
+use lib.IntN.{ℤ, negℤ, pos}
+use lib.ListN.{drop, getD, length, take}
 use Rattle.std.specs.declared.option.Option.{Option}
 use Rattle.std.specs.declared.option.Option.the-variants.{None, Some}
 use Rattle.words.specs.Reading.{between, next, readOn}
@@ -22,3 +23,20 @@ tenMore n c = next (tenDigit c) (λ d. fitting (n * 10 + d))
 -- at least one digit
 abbrev pub wholeOf : List ℕ → Option ℕ
 wholeOf cs = cond (eqb (length cs) 0) None (readOn tenMore 0 cs)
+
+-- a number of either sign that fits signed 32 bits, from its magnitude
+abbrev pub positiveOf : Option ℕ → Option ℤ
+positiveOf None = None
+positiveOf (Some n) = cond (ltb n (2 ^ 31)) (Some (pos n)) None
+
+abbrev pub negativeOf : Option ℕ → Option ℤ
+negativeOf None = None
+negativeOf (Some n) = cond (leb n (2 ^ 31)) (Some (negℤ (pos n))) None
+
+-- all bytes but the first
+abbrev pub rest : List ℕ → List ℕ
+rest cs = take (length cs - 1) (drop 1 cs)
+
+-- digits after an optional minus
+abbrev pub signedOf : List ℕ → Option ℤ
+signedOf cs = cond (eqb (getD cs 0 0) 45) (negativeOf (wholeOf (rest cs))) (positiveOf (wholeOf cs))

@@ -3,7 +3,7 @@
 ghost use Prim.Native.Nat.{_+_, _<_};
 ghost use lib.ListN.{length};
 ghost use mathlib.Core.Path.{_≡_};
-ghost use Rattle.words.specs.Decimal.{tenMore, wholeOf};
+ghost use Rattle.words.specs.Decimal.{negativeOf, positiveOf, signedOf, tenMore, wholeOf};
 
 /// One digit more after those that made `n`; nothing where the byte is no digit or the number does not fit 32 bits.
 fn more(n: u32, byte: u8) -> Option<u32>
@@ -36,17 +36,42 @@ pub fn unsigned(word: &[u8]) -> Option<u32>
     Some(n)
 }
 
-/// The signed number that digits after an optional minus write; nothing where it does not fit 32 bits.
-pub fn signed(word: &[u8]) -> Option<i32> {
+/// A magnitude as a number that is not negative; nothing where it does not fit signed 32 bits.
+fn positive(n: Option<u32>) -> Option<i32>
+    ensures { λ r. ⌜ r ≡ positiveOf n ⌝ }
+{
+    match n {
+        Some(m) => {
+            if m < 0x8000_0000 {
+                return Some(m as i32);
+            }
+            None
+        }
+        None => None,
+    }
+}
+
+/// A magnitude under a minus; nothing where it does not fit signed 32 bits.
+fn negative(n: Option<u32>) -> Option<i32>
+    ensures { λ r. ⌜ r ≡ negativeOf n ⌝ }
+{
+    match n {
+        Some(m) => {
+            if m <= 0x8000_0000 {
+                return Some((-(m as i64)) as i32);
+            }
+            None
+        }
+        None => None,
+    }
+}
+
+/// The signed number that digits after an optional minus write; nothing where it does not fit signed 32 bits.
+pub fn signed(word: &[u8]) -> Option<i32>
+    ensures { λ r. ⌜ r ≡ signedOf (now (word .entry)) ⌝ }
+{
     if word.is_empty() || word[0] != b'-' {
-        return match i32::try_from(unsigned(word)?) {
-            Ok(n) => Some(n),
-            Err(_) => None,
-        };
+        return positive(unsigned(word));
     }
-    let size = unsigned(&word[1..word.len()])?;
-    match i32::try_from(-(size as i64)) {
-        Ok(n) => Some(n),
-        Err(_) => None,
-    }
+    negative(unsigned(&word[1..word.len()]))
 }
