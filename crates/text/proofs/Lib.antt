@@ -1,0 +1,9 @@
+pub mod Reading
+pub mod Rounds
+pub mod Falling
+pub mod Filling
+pub mod Placing
+pub mod Widths
+pub mod Returning
+pub mod Deciding
+pub mod Examples
