@@ -1,5 +1,7 @@
 //! The bench: a mode, six flags, a work sheet and a source of seeds, and the calls on them.
 
+#![tactic(auto)]
+
 mod answer;
 pub mod bench;
 pub mod count;

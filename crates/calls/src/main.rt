@@ -1,5 +1,7 @@
 //! Runs a list of calls, one a line on standard input, on a fresh bench over the source that its argument names.
 
+#![tactic(auto)]
+
 mod command;
 mod run;
 mod show;

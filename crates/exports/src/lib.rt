@@ -1,5 +1,7 @@
 //! The library's functions as C calls them, for tests beside other implementations.
 
+#![tactic(auto)]
+
 mod calls;
 
 use registers::round::round_fused;

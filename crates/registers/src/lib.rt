@@ -1,5 +1,7 @@
 //! Patterns of binary32, register numbers, the fused step and the one rounding to binary32.
 
+#![tactic(auto)]
+
 mod cut;
 mod exact;
 mod fit;

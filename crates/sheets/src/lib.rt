@@ -1,5 +1,7 @@
 //! Work sheets: the lines of a quotient and of a root, and the closing value that rounds as the exact one.
 
+#![tactic(auto)]
+
 pub mod closing;
 mod operand;
 pub mod quotient;

@@ -1,5 +1,7 @@
 //! Seed sources: rough reciprocals and rough reciprocal roots from which the work sheets start.
 
+#![tactic(auto)]
+
 mod exact;
 pub mod line;
 pub mod operand;

@@ -1,5 +1,7 @@
 //! Plan lines in, page lines out: the lines of a text, the columns of a plan line, and the rows and refusals of a page.
 
+#![tactic(auto)]
+
 pub mod column;
 mod digits;
 pub mod line;

@@ -1,5 +1,7 @@
 //! Examples of columns, plan lines and page lines.
 
+#![tactic(auto)]
+
 #[cfg(test)]
 mod columns;
 #[cfg(test)]

@@ -1,5 +1,7 @@
 //! Words of command lines and of call lists: patterns in hexadecimal and whole numbers in base ten.
 
+#![tactic(auto)]
+
 pub mod hex;
 pub mod split;
 pub mod whole;

@@ -1,5 +1,7 @@
 //! Prints the work sheet of a quotient or of a root over one of the delivered sources, or the refinement of a reciprocal.
 
+#![tactic(auto)]
+
 mod decimal;
 mod refine;
 mod request;

@@ -12,16 +12,16 @@ returns-then-long-width c =
     record { rounds = p.0; whole = refl; small = p.1; sign = refl; laws = nearest_laws }
 
 -- what is cut and rounded
-cut : (c : goal.After-struct-known·1) → ((n : ℕ) → Holds c.args.x n → c.nearest-part.result * 2 ^ (c.args.x.exponent + (c.length-long.result - c.args.width)) ≡ nearest c.args.width n) × (c.nearest-part.result ≤ 2 ^ 30)
+cut : (c : goal.After-struct_known-1) → ((n : ℕ) → Holds c.args.x n → c.nearest_part.result * 2 ^ (c.args.x.exponent + (c.length-long.result - c.args.width)) ≡ nearest c.args.width n) × (c.nearest_part.result ≤ 2 ^ 30)
 cut c =
     let x = c.args.x in
-    width_cut_at c.args.width c.length-long.result x.whole x.exponent c.split.result.kept c.nearest-part.result x.more c.split.result.side c.requires.1.0 c.length-long.ensures.counts c.if-long-width.false c.split.ensures.splits c.split.ensures.kept c.nearest-part.ensures
+    width_cut_at c.args.width c.length-long.result x.whole x.exponent c.split.result.kept c.nearest_part.result x.more c.split.result.side c.requires.1.0 c.length-long.ensures.counts c.if-long-width.false c.split.ensures.splits c.split.ensures.kept c.nearest_part.ensures
 
-pub invariant-of-result-2 : goal.invariant-of-result-2
-invariant-of-result-2 c = ((omega (arith, (cut c).1), λ z. absurd z, omega arith), tt)
+pub invariant_of-result-2 : goal.invariant_of-result-2
+invariant_of-result-2 c = record { sizes = (omega (arith, (cut c).1), λ z. absurd z, omega arith) }
 
 pub returns : goal.returns
 returns c =
     let x = c.args.x in
-    let p = width_cut_at c.args.width c.length-long.result x.whole x.exponent c.split.result.kept c.nearest-part.result x.more c.split.result.side c.requires.1.0 c.length-long.ensures.counts c.if-long-width.false c.split.ensures.splits c.split.ensures.kept c.nearest-part.ensures in
+    let p = width_cut_at c.args.width c.length-long.result x.whole x.exponent c.split.result.kept c.nearest_part.result x.more c.split.result.side c.requires.1.0 c.length-long.ensures.counts c.if-long-width.false c.split.ensures.splits c.split.ensures.kept c.nearest_part.ensures in
     record { rounds = p.0; whole = refl; small = p.1; sign = refl; laws = nearest_laws }

@@ -7,12 +7,12 @@ use Rattle.registers.proofs.Placing.{pattern_over, placed, held_full}
 use Rattle.registers.proofs.place.to_pattern.Goals as goal
 use Rattle.registers.proofs.place.to_pattern.Goals.{then-top, else-top}
 
-pub returns-then-top-gt-GREATEST-TOP : goal.returns-then-top-gt-GREATEST-TOP
-returns-then-top-gt-GREATEST-TOP c =
+pub returns-then-top-gt-GREATEST_TOP : goal.returns-then-top-gt-GREATEST_TOP
+returns-then-top-gt-GREATEST_TOP c =
     let x = c.args.x in
     λ n h. c.conclude.ensures
-    ∙ ap (under_sign x.negative) (pattern_over c.way-of-way.result n (x.exponent + c.length.result) c.if-top-gt-GREATEST-TOP.true (subst (λ (t : ℕ). 2 ^ (x.exponent + t) ≤ 2 * n) (sym c.length.ensures.counts) (held_full x.whole x.exponent n x.more h c.requires)))
-    ∙ ap (λ (w : Way). under_sign x.negative (rounding w (beside_whole n))) c.way-of-way.ensures
+    ∙ ap (under_sign x.negative) (pattern_over c.way_of-way.result n (x.exponent + c.length.result) c.if-top-gt-GREATEST_TOP.true (subst (λ (t : ℕ). 2 ^ (x.exponent + t) ≤ 2 * n) (sym c.length.ensures.counts) (held_full x.whole x.exponent n x.more h c.requires)))
+    ∙ ap (λ (w : Way). under_sign x.negative (rounding w (beside_whole n))) c.way_of-way.ensures
 
 pub returns : goal.returns
 returns c =
@@ -20,8 +20,8 @@ returns c =
     let o : (c.if-top.grain ≡ 2 * unit - 149) ⊎ ((2 * unit - 125 ≤ x.exponent + c.length.result) × (c.if-top.grain ≡ x.exponent + c.length.result - 24)) =
     elim c.if-top.branch [ then-top w ↦ inl w.grain-is | else-top w ↦ inr (w.if-top.false, w.grain-is) ] in
     λ n h. c.conclude-2.ensures
-    ∙ ap (under_sign x.negative) (placed c.way-of-way.result n c.place-part.result.kept c.if-top.grain (x.exponent + c.length.result) c.place-part.result.side c.is-tiny-small.result
+    ∙ ap (under_sign x.negative) (placed c.way_of-way.result n c.place-part.result.kept c.if-top.grain (x.exponent + c.length.result) c.place-part.result.side c.is_tiny-small.result
     (c.place-part.ensures.splits n h) c.place-part.ensures.few
     (subst (λ (t : ℕ). 2 ^ (x.exponent + t) ≤ 2 * n) (sym c.length.ensures.counts) (held_full x.whole x.exponent n x.more h c.requires))
-    c.if-top-gt-GREATEST-TOP.false o (c.is-tiny-small.ensures n h))
-    ∙ ap (λ (w : Way). under_sign x.negative (rounding w (beside_whole n))) c.way-of-way.ensures
+    c.if-top-gt-GREATEST_TOP.false o (c.is_tiny-small.ensures n h))
+    ∙ ap (λ (w : Way). under_sign x.negative (rounding w (beside_whole n))) c.way_of-way.ensures

@@ -20,7 +20,7 @@ returns c =
     record {
       answer = λ n h.
           let s : 0 < n = held_some x.whole x.exponent n x.more p h in
-          ap Some (c.to-pattern.ensures n h) ∙ sym (cond-false (eqb n 0) _ _ (ne_eqb n 0 (λ z. omega arith)));
+          ap Some (c.to_pattern.ensures n h) ∙ sym (cond-false (eqb n 0) _ _ (ne_eqb n 0 (λ z. omega arith)));
       right = right_rounding;
       same_side = same_side;
     }

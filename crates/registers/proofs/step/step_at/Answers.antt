@@ -5,12 +5,12 @@ use Rattle.registers.proofs.step.step_at.Goals as goal
 
 pub returns : goal.returns
 returns c =
-    let x = c.to-width.result in
-    let s : x.negative ≡ fused_sign c.args.choice (value c.args.r) (value c.args.p) (value c.args.q) = c.to-width.ensures.sign ∙ c.exact-sum.ensures.sign in
+    let x = c.to_width.result in
+    let s : x.negative ≡ fused_sign c.args.choice (value c.args.r) (value c.args.p) (value c.args.q) = c.to_width.ensures.sign ∙ c.exact_sum.ensures.sign in
     record {
       answer =
-          c.to-register.ensures
+          c.to_register.ensures
           ∙ ap (λ (b : Bool). kept b (x.whole * 2 ^ x.exponent)) s
-          ∙ ap (λ (n : ℕ). kept (fused_sign c.args.choice (value c.args.r) (value c.args.p) (value c.args.q)) n) (c.to-width.ensures.rounds _ c.exact-sum.ensures.held);
-      laws = c.to-width.ensures.laws;
+          ∙ ap (λ (n : ℕ). kept (fused_sign c.args.choice (value c.args.r) (value c.args.p) (value c.args.q)) n) (c.to_width.ensures.rounds _ c.exact_sum.ensures.held);
+      laws = c.to_width.ensures.laws;
     }

@@ -6,7 +6,7 @@ pub returns : goal.returns
 returns c =
     let a = c.args in
     record {
-      held = near_held a.s a.t a.a a.b a.exponent c.signed-sum-negative.result.1 c.signed-sum-negative.ensures.size;
-      sign = near_sign a.s a.t c.signed-sum-negative.result.0 a.a a.b a.exponent c.signed-sum-negative.ensures.sign;
+      held = near_held a.s a.t a.a a.b a.exponent c.signed_sum-negative.result.1 c.signed_sum-negative.ensures.size;
+      sign = near_sign a.s a.t c.signed_sum-negative.result.0 a.a a.b a.exponent c.signed_sum-negative.ensures.sign;
       low = omega arith;
     }

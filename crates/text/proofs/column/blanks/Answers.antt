@@ -8,14 +8,14 @@ use Rattle.text.proofs.column.blanks.Goals as goal
 pub loop-n-preserved : goal.loop-n-preserved
 loop-n-preserved c = (
   omega arith,
-  past_blank c.args.text.now c.loop-n.n (omega arith) (sym c.is-blank.ensures ∙ c.if-is-blank.true) ∙ c.loop-n.invariant.1,
+  past_blank c.args.text.now c.loop-n.n (omega arith) (sym c.is_blank.ensures ∙ c.if-is_blank.true) ∙ c.loop-n.invariant.1,
 )
 
-pub returns-else-is-blank : goal.returns-else-is-blank
-returns-else-is-blank c =
+pub returns-else-is_blank : goal.returns-else-is_blank
+returns-else-is_blank c =
     record {
       bound = omega arith;
-      rest = at_sign c.args.text.now c.loop-n.n (omega arith) (sym c.is-blank.ensures ∙ c.if-is-blank.false) ∙ c.loop-n.invariant.1;
+      rest = at_sign c.args.text.now c.loop-n.n (omega arith) (sym c.is_blank.ensures ∙ c.if-is_blank.false) ∙ c.loop-n.invariant.1;
     }
 
 pub returns-after-loop-n : goal.returns-after-loop-n

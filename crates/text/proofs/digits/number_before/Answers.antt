@@ -6,8 +6,8 @@ use Rattle.text.specs.Pages.{led}
 use Rattle.text.proofs.Filling.{blanks_before, led_append, length_led, past_front}
 use Rattle.text.proofs.digits.number_before.Goals as goal
 
-pub digits-before-first-requires : goal.digits-before-first-requires
-digits-before-first-requires c =
+pub digits_before-first-requires : goal.digits_before-first-requires
+digits_before-first-requires c =
     let less : c.args.end - 1 ≤ c.args.end = omega arith in
     record {
       within = c.requires.within;
@@ -15,15 +15,15 @@ digits-before-first-requires c =
       room = omega (arith, pow-le-pow_right {n = 10} (omega arith) less);
     }
 
-pub lead-before-start-requires : goal.lead-before-start-requires
-lead-before-start-requires c =
+pub lead_before-start-requires : goal.lead_before-start-requires
+lead_before-start-requires c =
     let few : length (decimal c.args.n) ≤ c.args.end - 1 = length-decimal-le (c.args.end - 1) c.args.n (omega arith) c.requires.room (omega arith) in
     record { within = omega arith; some = omega arith }
 
 pub returns : goal.returns
 returns c =
-    let d = c.digits-before-first in
-    let l = c.lead-before-start in
+    let d = c.digits_before-first in
+    let l = c.lead_before-start in
     let rest = drop c.args.end c.args.column.now in
     let digits = decimal c.args.n in
     let tail : drop d.result d.new.column ≡ digits ++ rest =

@@ -7,5 +7,5 @@ use Rattle.text.proofs.digits.write_column.Goals as goal
 
 pub returns : goal.returns
 returns c =
-    let text : c.number-column.result ≡ number_text c.args.n = search rules in
+    let text : c.number_column.result ≡ number_text c.args.n = search rules in
     record { text = text; reads = ap column_of text ∙ reads_back c.args.n (omega arith) }

@@ -8,8 +8,8 @@ pub returns : goal.returns
 returns c =
     let text = c.args.text.now in
     record {
-      value = c.split-line.ensures;
-      shorter = subst (Shorter text) (sym c.split-line.ensures) (shorter_next text);
-      lines = lines_next text ∙ sym (ap lines_from c.split-line.ensures);
+      value = c.split_line.ensures;
+      shorter = subst (Shorter text) (sym c.split_line.ensures) (shorter_next text);
+      lines = lines_next text ∙ sym (ap lines_from c.split_line.ensures);
       whole = lines_rejoined text;
     }

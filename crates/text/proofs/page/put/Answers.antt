@@ -8,4 +8,4 @@ pub returns : goal.returns
 returns c =
     put_part c.args.page.now c.args.at _ _ (line_text c.args.first.now c.args.second.now)
     (omega (arith, line_length c.args.first.now c.args.second.now c.requires.columns.0 c.requires.columns.1))
-    c.fill-line.ensures
+    c.fill_line.ensures

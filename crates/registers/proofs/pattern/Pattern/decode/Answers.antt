@@ -15,5 +15,5 @@ returns c =
     let p = c.args.self.bits in
     let h : p < 2 ^ 32 = omega arith in
     let l : unsigned p < 0x7F800000 = omega arith in
-    let v = c.finite-of.ensures ∙ sym (meaning_finite p l) in
+    let v = c.finite_of.ensures ∙ sym (meaning_finite p l) in
     record { value = v; back = λ n. ap encoding v ∙ pattern_back p h n }
