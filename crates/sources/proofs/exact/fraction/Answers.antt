@@ -3,8 +3,8 @@ use Rattle.std.proofs.lemmas.Int.{ints}
 use Rattle.sources.specs.Placing.{built, built_as, zeros_least, zeros_most, digits_most, buildable, fraction_is}
 use Rattle.sources.proofs.exact.fraction.Goals as goal
 
-pub overflow-sub-shift : goal.overflow-sub-shift
-overflow-sub-shift c = zeros_least c.args.a c.requires.0 c.requires.1.0
+pub overflow_sub-shift : goal.overflow_sub-shift
+overflow_sub-shift c = zeros_least c.args.a c.requires.0 c.requires.1.0
 
 pub unwrap-requires : goal.unwrap-requires
 unwrap-requires c =

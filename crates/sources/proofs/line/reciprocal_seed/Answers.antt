@@ -7,10 +7,10 @@ use Rattle.sources.specs.ReciprocalSteps.{reciprocal_positive, reciprocal_units,
 use Rattle.sources.proofs.line.reciprocal_seed.Goals as goal
 
 pub given-requires : goal.given-requires
-given-requires c = subst Positive (sym c.reciprocal-line.ensures) (reciprocal_positive c.args.b.bits (is_significand c.args.b))
+given-requires c = subst Positive (sym c.reciprocal_line.ensures) (reciprocal_positive c.args.b.bits (is_significand c.args.b))
 
 pub returns : goal.returns
 returns c = record {
-  value = c.given.ensures ∙ ap plain (reciprocal_units c.args.b.bits (is_significand c.args.b) (answered c.reciprocal-line.result) c.reciprocal-line.ensures);
+  value = c.given.ensures ∙ ap plain (reciprocal_units c.args.b.bits (is_significand c.args.b) (answered c.reciprocal_line.result) c.reciprocal_line.ensures);
   refines = reciprocal_refines;
 }

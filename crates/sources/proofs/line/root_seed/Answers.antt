@@ -7,10 +7,10 @@ use Rattle.sources.specs.RootSteps.{root_positive, root_units, root_refines}
 use Rattle.sources.proofs.line.root_seed.Goals as goal
 
 pub given-requires : goal.given-requires
-given-requires c = subst Positive (sym c.root-line.ensures) (root_positive c.args.t.bits (is_radicand c.args.t))
+given-requires c = subst Positive (sym c.root_line.ensures) (root_positive c.args.t.bits (is_radicand c.args.t))
 
 pub returns : goal.returns
 returns c = record {
-  value = c.given.ensures ∙ ap plain (root_units c.args.t.bits (is_radicand c.args.t) (answered c.root-line.result) c.root-line.ensures);
+  value = c.given.ensures ∙ ap plain (root_units c.args.t.bits (is_radicand c.args.t) (answered c.root_line.result) c.root_line.ensures);
   refines = root_refines;
 }

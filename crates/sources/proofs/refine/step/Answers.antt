@@ -3,4 +3,4 @@ use Rattle.sources.proofs.refine.step.Goals as goal
 
 pub returns : goal.returns
 unfolding step
-returns c = c.fused-step.ensures.answer
+returns c = c.fused_step.ensures.answer

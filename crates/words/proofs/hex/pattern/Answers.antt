@@ -12,10 +12,10 @@ eight cs o l e = sym (cond-true (eqb (length cs) 8) (read_on hex_more 0 cs) None
 pub more-requires : goal.more-requires
 more-requires c = small_fits c.loop-byte.bits c.loop-byte.byte-index c.loop-byte.invariant.0 (omega arith)
 
-pub returns-in-default : goal.returns-in-default
-returns-in-default c =
+pub returns-in_default : goal.returns-in_default
+returns-in_default c =
     let w = c.args.word.now in
-    eight w None (omega arith) (sym c.loop-byte.invariant.1 ∙ digit_none hex_more c.loop-byte.bits c.loop-byte.byte-index w c.loop-byte-test.true (sym c.in-default.is ∙ c.more.ensures.value))
+    eight w None (omega arith) (sym c.loop-byte.invariant.1 ∙ digit_none hex_more c.loop-byte.bits c.loop-byte.byte-index w c.loop-byte-test.true (sym c.in_default.is ∙ c.more.ensures.value))
 
 pub loop-byte-preserved : goal.loop-byte-preserved
 loop-byte-preserved c =
@@ -30,4 +30,4 @@ pub returns : goal.returns
 returns c =
     let w = c.args.word.now in
     let l : length w ≤ c.loop-byte.byte-index = omega arith in
-    ap Some c.from-bits.ensures ∙ eight w (Some c.loop-byte.bits) (omega arith) (sym c.loop-byte.invariant.1 ∙ digit_last hex_more c.loop-byte.bits c.loop-byte.byte-index w l)
+    ap Some c.from_bits.ensures ∙ eight w (Some c.loop-byte.bits) (omega arith) (sym c.loop-byte.invariant.1 ∙ digit_last hex_more c.loop-byte.bits c.loop-byte.byte-index w l)
