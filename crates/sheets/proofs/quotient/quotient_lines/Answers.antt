@@ -14,54 +14,54 @@ placed-requires g c =
     let m = reciprocal_moderate q.significand.bits (seeds q.significand.bits) (number_value c.reciprocal-seed.result) (in_range q.significand) close c.reciprocal-seed.ensures in
     (m.0, (m.1, (omega arith, q.range)))
 
-pub residual-of-one-e0-requires : goal.residual-of-one-e0-requires
-residual-of-one-e0-requires g c =
+pub residual_of_one-e0-requires : goal.residual_of_one-e0-requires
+residual_of_one-e0-requires g c =
     let q = c.operand-divisor.result in
     let seeds = g.S.Source.reciprocals c.args.source.now in
     let close = g.met.S.Source.reciprocals_close c.args.source.now q.significand.bits (in_range q.significand) in
-    let s = begun seeds (units_of c.args.a) (units_of c.args.b) c.operand-dividend.result q (value c.register-of-x.result) (value c.register-of-d.result) c.reciprocal-seed.result c.placed.result c.operand-dividend.ensures c.operand-divisor.ensures c.register-of-x.ensures c.register-of-d.ensures c.reciprocal-seed.ensures close c.placed.ensures.plus c.placed.ensures.exact in
-    need_e0 seeds (units_of c.args.a) (units_of c.args.b) (value c.register-of-x.result) (value c.register-of-d.result) (number_value c.placed.result) s
+    let s = begun seeds (units_of c.args.a) (units_of c.args.b) c.operand-dividend.result q (value c.register_of-x.result) (value c.register_of-d.result) c.reciprocal-seed.result c.placed.result c.operand-dividend.ensures c.operand-divisor.ensures c.register_of-x.ensures c.register_of-d.ensures c.reciprocal-seed.ensures close c.placed.ensures.plus c.placed.ensures.exact in
+    need_e0 seeds (units_of c.args.a) (units_of c.args.b) (value c.register_of-x.result) (value c.register_of-d.result) (number_value c.placed.result) s
 
 pub improved-e1-requires : goal.improved-e1-requires
 improved-e1-requires g c =
     let q = c.operand-divisor.result in
     let seeds = g.S.Source.reciprocals c.args.source.now in
     let close = g.met.S.Source.reciprocals_close c.args.source.now q.significand.bits (in_range q.significand) in
-    let s = begun seeds (units_of c.args.a) (units_of c.args.b) c.operand-dividend.result q (value c.register-of-x.result) (value c.register-of-d.result) c.reciprocal-seed.result c.placed.result c.operand-dividend.ensures c.operand-divisor.ensures c.register-of-x.ensures c.register-of-d.ensures c.reciprocal-seed.ensures close c.placed.ensures.plus c.placed.ensures.exact in
-    need_e1 seeds (units_of c.args.a) (units_of c.args.b) (value c.register-of-x.result) (value c.register-of-d.result) (number_value c.placed.result) s (value c.residual-of-one-e0.result) c.residual-of-one-e0.ensures
+    let s = begun seeds (units_of c.args.a) (units_of c.args.b) c.operand-dividend.result q (value c.register_of-x.result) (value c.register_of-d.result) c.reciprocal-seed.result c.placed.result c.operand-dividend.ensures c.operand-divisor.ensures c.register_of-x.ensures c.register_of-d.ensures c.reciprocal-seed.ensures close c.placed.ensures.plus c.placed.ensures.exact in
+    need_e1 seeds (units_of c.args.a) (units_of c.args.b) (value c.register_of-x.result) (value c.register_of-d.result) (number_value c.placed.result) s (value c.residual_of_one-e0.result) c.residual_of_one-e0.ensures
 
 pub improved-y1-requires : goal.improved-y1-requires
 improved-y1-requires g c =
     let q = c.operand-divisor.result in
     let seeds = g.S.Source.reciprocals c.args.source.now in
     let close = g.met.S.Source.reciprocals_close c.args.source.now q.significand.bits (in_range q.significand) in
-    let s = begun seeds (units_of c.args.a) (units_of c.args.b) c.operand-dividend.result q (value c.register-of-x.result) (value c.register-of-d.result) c.reciprocal-seed.result c.placed.result c.operand-dividend.ensures c.operand-divisor.ensures c.register-of-x.ensures c.register-of-d.ensures c.reciprocal-seed.ensures close c.placed.ensures.plus c.placed.ensures.exact in
-    need_y1 seeds (units_of c.args.a) (units_of c.args.b) (value c.register-of-x.result) (value c.register-of-d.result) (number_value c.placed.result) s (value c.residual-of-one-e0.result) c.residual-of-one-e0.ensures (value c.improved-e1.result) c.improved-e1.ensures
+    let s = begun seeds (units_of c.args.a) (units_of c.args.b) c.operand-dividend.result q (value c.register_of-x.result) (value c.register_of-d.result) c.reciprocal-seed.result c.placed.result c.operand-dividend.ensures c.operand-divisor.ensures c.register_of-x.ensures c.register_of-d.ensures c.reciprocal-seed.ensures close c.placed.ensures.plus c.placed.ensures.exact in
+    need_y1 seeds (units_of c.args.a) (units_of c.args.b) (value c.register_of-x.result) (value c.register_of-d.result) (number_value c.placed.result) s (value c.residual_of_one-e0.result) c.residual_of_one-e0.ensures (value c.improved-e1.result) c.improved-e1.ensures
 
 pub product-q1-requires : goal.product-q1-requires
 product-q1-requires g c =
     let q = c.operand-divisor.result in
     let seeds = g.S.Source.reciprocals c.args.source.now in
     let close = g.met.S.Source.reciprocals_close c.args.source.now q.significand.bits (in_range q.significand) in
-    let s = begun seeds (units_of c.args.a) (units_of c.args.b) c.operand-dividend.result q (value c.register-of-x.result) (value c.register-of-d.result) c.reciprocal-seed.result c.placed.result c.operand-dividend.ensures c.operand-divisor.ensures c.register-of-x.ensures c.register-of-d.ensures c.reciprocal-seed.ensures close c.placed.ensures.plus c.placed.ensures.exact in
-    need_q1 seeds (units_of c.args.a) (units_of c.args.b) (value c.register-of-x.result) (value c.register-of-d.result) (number_value c.placed.result) s (value c.residual-of-one-e0.result) c.residual-of-one-e0.ensures (value c.improved-e1.result) c.improved-e1.ensures (value c.improved-y1.result) c.improved-y1.ensures
+    let s = begun seeds (units_of c.args.a) (units_of c.args.b) c.operand-dividend.result q (value c.register_of-x.result) (value c.register_of-d.result) c.reciprocal-seed.result c.placed.result c.operand-dividend.ensures c.operand-divisor.ensures c.register_of-x.ensures c.register_of-d.ensures c.reciprocal-seed.ensures close c.placed.ensures.plus c.placed.ensures.exact in
+    need_q1 seeds (units_of c.args.a) (units_of c.args.b) (value c.register_of-x.result) (value c.register_of-d.result) (number_value c.placed.result) s (value c.residual_of_one-e0.result) c.residual_of_one-e0.ensures (value c.improved-e1.result) c.improved-e1.ensures (value c.improved-y1.result) c.improved-y1.ensures
 
 pub residual-r1-requires : goal.residual-r1-requires
 residual-r1-requires g c =
     let q = c.operand-divisor.result in
     let seeds = g.S.Source.reciprocals c.args.source.now in
     let close = g.met.S.Source.reciprocals_close c.args.source.now q.significand.bits (in_range q.significand) in
-    let s = begun seeds (units_of c.args.a) (units_of c.args.b) c.operand-dividend.result q (value c.register-of-x.result) (value c.register-of-d.result) c.reciprocal-seed.result c.placed.result c.operand-dividend.ensures c.operand-divisor.ensures c.register-of-x.ensures c.register-of-d.ensures c.reciprocal-seed.ensures close c.placed.ensures.plus c.placed.ensures.exact in
-    need_r1 seeds (units_of c.args.a) (units_of c.args.b) (value c.register-of-x.result) (value c.register-of-d.result) (number_value c.placed.result) s (value c.residual-of-one-e0.result) c.residual-of-one-e0.ensures (value c.improved-e1.result) c.improved-e1.ensures (value c.improved-y1.result) c.improved-y1.ensures (value c.product-q1.result) c.product-q1.ensures
+    let s = begun seeds (units_of c.args.a) (units_of c.args.b) c.operand-dividend.result q (value c.register_of-x.result) (value c.register_of-d.result) c.reciprocal-seed.result c.placed.result c.operand-dividend.ensures c.operand-divisor.ensures c.register_of-x.ensures c.register_of-d.ensures c.reciprocal-seed.ensures close c.placed.ensures.plus c.placed.ensures.exact in
+    need_r1 seeds (units_of c.args.a) (units_of c.args.b) (value c.register_of-x.result) (value c.register_of-d.result) (number_value c.placed.result) s (value c.residual_of_one-e0.result) c.residual_of_one-e0.ensures (value c.improved-e1.result) c.improved-e1.ensures (value c.improved-y1.result) c.improved-y1.ensures (value c.product-q1.result) c.product-q1.ensures
 
 pub returns : goal.returns
 returns g c =
     let q = c.operand-divisor.result in
     let seeds = g.S.Source.reciprocals c.args.source.now in
     let close = g.met.S.Source.reciprocals_close c.args.source.now q.significand.bits (in_range q.significand) in
-    let s = begun seeds (units_of c.args.a) (units_of c.args.b) c.operand-dividend.result q (value c.register-of-x.result) (value c.register-of-d.result) c.reciprocal-seed.result c.placed.result c.operand-dividend.ensures c.operand-divisor.ensures c.register-of-x.ensures c.register-of-d.ensures c.reciprocal-seed.ensures close c.placed.ensures.plus c.placed.ensures.exact in
+    let s = begun seeds (units_of c.args.a) (units_of c.args.b) c.operand-dividend.result q (value c.register_of-x.result) (value c.register_of-d.result) c.reciprocal-seed.result c.placed.result c.operand-dividend.ensures c.operand-divisor.ensures c.register_of-x.ensures c.register_of-d.ensures c.reciprocal-seed.ensures close c.placed.ensures.plus c.placed.ensures.exact in
     record {
-      sheet = worked seeds (units_of c.args.a) (units_of c.args.b) (value c.register-of-x.result) (value c.register-of-d.result) (number_value c.placed.result) s (value c.residual-of-one-e0.result) c.residual-of-one-e0.ensures (value c.improved-e1.result) c.improved-e1.ensures (value c.improved-y1.result) c.improved-y1.ensures (value c.product-q1.result) c.product-q1.ensures (value c.residual-r1.result) c.residual-r1.ensures;
-      some = some seeds (units_of c.args.a) (units_of c.args.b) (value c.register-of-x.result) (value c.register-of-d.result) (number_value c.placed.result) s (value c.residual-of-one-e0.result) c.residual-of-one-e0.ensures (value c.improved-e1.result) c.improved-e1.ensures (value c.improved-y1.result) c.improved-y1.ensures (value c.product-q1.result) c.product-q1.ensures (value c.residual-r1.result) c.residual-r1.ensures;
-      same_side = same_side seeds (units_of c.args.a) (units_of c.args.b) (value c.register-of-x.result) (value c.register-of-d.result) (number_value c.placed.result) s (value c.residual-of-one-e0.result) c.residual-of-one-e0.ensures (value c.improved-e1.result) c.improved-e1.ensures (value c.improved-y1.result) c.improved-y1.ensures (value c.product-q1.result) c.product-q1.ensures (value c.residual-r1.result) c.residual-r1.ensures;
+      sheet = worked seeds (units_of c.args.a) (units_of c.args.b) (value c.register_of-x.result) (value c.register_of-d.result) (number_value c.placed.result) s (value c.residual_of_one-e0.result) c.residual_of_one-e0.ensures (value c.improved-e1.result) c.improved-e1.ensures (value c.improved-y1.result) c.improved-y1.ensures (value c.product-q1.result) c.product-q1.ensures (value c.residual-r1.result) c.residual-r1.ensures;
+      some = some seeds (units_of c.args.a) (units_of c.args.b) (value c.register_of-x.result) (value c.register_of-d.result) (number_value c.placed.result) s (value c.residual_of_one-e0.result) c.residual_of_one-e0.ensures (value c.improved-e1.result) c.improved-e1.ensures (value c.improved-y1.result) c.improved-y1.ensures (value c.product-q1.result) c.product-q1.ensures (value c.residual-r1.result) c.residual-r1.ensures;
+      same_side = same_side seeds (units_of c.args.a) (units_of c.args.b) (value c.register_of-x.result) (value c.register_of-d.result) (number_value c.placed.result) s (value c.residual_of_one-e0.result) c.residual_of_one-e0.ensures (value c.improved-e1.result) c.improved-e1.ensures (value c.improved-y1.result) c.improved-y1.ensures (value c.product-q1.result) c.product-q1.ensures (value c.residual-r1.result) c.residual-r1.ensures;
     }

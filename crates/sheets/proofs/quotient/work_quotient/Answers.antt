@@ -10,9 +10,9 @@ pub returns : goal.returns
 returns g c =
     let a = units_of c.args.a in
     let b = units_of c.args.b in
-    let side = subst (λ (n : ℕ). SameSide (beside_whole n) (beside_quotient a b)) (sym c.closing-of.ensures) c.quotient-lines-lines.ensures.same_side in
+    let side = subst (λ (n : ℕ). SameSide (beside_whole n) (beside_quotient a b)) (sym c.closing_of.ensures) c.quotient_lines-lines.ensures.same_side in
     record {
-      sheet = subst₂ (QuotientSheet (g.S.Source.reciprocals c.args.source.now) a b) (sym c.write-quotient.ensures) (sym c.closing-of.ensures) c.quotient-lines-lines.ensures.sheet;
+      sheet = subst₂ (QuotientSheet (g.S.Source.reciprocals c.args.source.now) a b) (sym c.write_quotient.ensures) (sym c.closing_of.ensures) c.quotient_lines-lines.ensures.sheet;
       same_side = side;
-      same-rounding = rounds_alike side;
+      same_rounding = rounds_alike side;
     }

@@ -9,9 +9,9 @@ use Rattle.sheets.proofs.root.work_root.Goals as goal
 pub returns : goal.returns
 returns g c =
     let a = units_of c.args.a in
-    let side = subst (λ (n : ℕ). SameSide (beside_whole n) (beside_root a)) (sym c.closing-of.ensures) c.root-lines-lines.ensures.same_side in
+    let side = subst (λ (n : ℕ). SameSide (beside_whole n) (beside_root a)) (sym c.closing_of.ensures) c.root_lines-lines.ensures.same_side in
     record {
-      sheet = subst₂ (RootSheet (g.S.Source.roots c.args.source.now) a) (sym c.write-root.ensures) (sym c.closing-of.ensures) c.root-lines-lines.ensures.sheet;
+      sheet = subst₂ (RootSheet (g.S.Source.roots c.args.source.now) a) (sym c.write_root.ensures) (sym c.closing_of.ensures) c.root_lines-lines.ensures.sheet;
       same_side = side;
-      same-rounding = rounds_alike side;
+      same_rounding = rounds_alike side;
     }

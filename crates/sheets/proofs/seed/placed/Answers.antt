@@ -3,8 +3,8 @@ use Rattle.registers.specs.Range.{bias_is}
 use Rattle.sheets.proofs.Placing.{exponent_above, exponent_below, moved}
 use Rattle.sheets.proofs.seed.placed.Goals as goal
 
-pub overflow-sub-stored : goal.overflow-sub-stored
-overflow-sub-stored c =
+pub overflow_sub-stored : goal.overflow_sub-stored
+overflow_sub-stored c =
     let y = c.args.y in
     omega (arith, bias_is, c.stored.ensures, c.requires.1.1.1, exponent_above y.significand y.exponent y.bounds.1 y.bounds.2 c.requires.0 c.requires.1.0)
 
