@@ -31,10 +31,10 @@ fn source_of(rt: &HostRuntime) -> anyhow::Result<Option<Named>> {
     if words.next().is_some() {
         return Ok(None);
     }
-    if word.as_bytes() == b"table" {
+    if word.as_bytes() == b"table".as_slice() {
         return Ok(Some(Named::Table));
     }
-    if word.as_bytes() == b"line" {
+    if word.as_bytes() == b"line".as_slice() {
         return Ok(Some(Named::Line));
     }
     Ok(None)

@@ -89,10 +89,10 @@ fn refined(heap: Global, word: &[u8]) -> Result<String, Trouble> {
 
 /// The source that a word names.
 fn source_of(word: &[u8]) -> Result<Named, Trouble> {
-    if word == b"table" {
+    if word == b"table".as_slice() {
         return Ok(Named::Table);
     }
-    if word == b"line" {
+    if word == b"line".as_slice() {
         return Ok(Named::Line);
     }
     Err(Trouble::Source)
@@ -149,14 +149,14 @@ pub fn answer(heap: Global, words: &Vec<String>) -> Result<String, Trouble> {
     }
     let source = source_of(word(words, 0))?;
     let sheet = word(words, 1);
-    if sheet != b"quotient" && sheet != b"root" {
+    if sheet != b"quotient".as_slice() && sheet != b"root".as_slice() {
         return Err(Trouble::Sheet);
     }
-    if sheet == b"quotient" && count == 4 {
+    if sheet == b"quotient".as_slice() && count == 4 {
         let a = pattern_of(word(words, 2))?;
         return quotient(heap, source, a, pattern_of(word(words, 3))?);
     }
-    if sheet == b"root" && count == 3 {
+    if sheet == b"root".as_slice() && count == 3 {
         return root(heap, source, pattern_of(word(words, 2))?);
     }
     Err(Trouble::Words)

@@ -1,4 +1,4 @@
-use Rattle.std.proofs.Common.{◌≡◌, ℕ, ◌/◌, ◌%◌, nat_abs, sym, ap, ◌∙◌}
+use Rattle.std.proofs.Common.{◌≡◌, ℕ, ◌/◌, ◌%◌, nat_abs, sym, ap, ◌∙◌, rules, w32, SFits}
 use Rattle.bench.specs.Counts.{counted}
 use Rattle.bench.proofs.Counting.{below_zero, differ, lines_as, magnitude_is, magnitude_of, pair_is, signed_is}
 use Rattle.bench.proofs.count.count_in_range.Goals as goal
@@ -7,16 +7,18 @@ pub returns : goal.returns
 returns g c =
     let a = c.args.a in
     let b = c.args.b in
-    let m = magnitude_is a _ c.ranges.a c.unsigned-abs-m.ensures.value in
-    let n = magnitude_is b _ c.ranges.b c.unsigned-abs-n.ensures.value in
-    let s = below_zero a _ c.ranges.a c.is-below-zero.ensures in
-    let t = below_zero b _ c.ranges.b c.is-below-zero-2.ensures in
-    let u = below_zero a _ c.ranges.a c.is-below-zero-3.ensures in
-    let q : c.count-magnitudes-whole.result ≡ nat_abs a / nat_abs b = c.count-magnitudes-whole.ensures.value ∙ ap (λ (x : ℕ). x / c.unsigned-abs-n.result) m ∙ ap (λ (x : ℕ). nat_abs a / x) n in
-    let r : c.rest-of-rest.result ≡ nat_abs a % nat_abs b = c.rest-of-rest.ensures ∙ ap (λ (x : ℕ). x % c.unsigned-abs-n.result) m ∙ ap (λ (x : ℕ). nat_abs a % x) n in
-    let Q = signed_is c.signed.result _ _ _ _ (record { sfits = c.signed.type-inv }) c.signed.ensures (differ _ _ _ _ s t) q in
-    let R = signed_is c.signed-2.result _ _ _ _ (record { sfits = c.signed-2.type-inv }) c.signed-2.ensures u r in
+    let m = magnitude_is a _ c.ranges.a c.unsigned_abs-m.ensures.value in
+    let n = magnitude_is b _ c.ranges.b c.unsigned_abs-n.ensures.value in
+    let s = below_zero a _ c.ranges.a c.is_below_zero.ensures in
+    let t = below_zero b _ c.ranges.b c.is_below_zero-2.ensures in
+    let u = below_zero a _ c.ranges.a c.is_below_zero-3.ensures in
+    let q : c.count_magnitudes-whole.result ≡ nat_abs a / nat_abs b = c.count_magnitudes-whole.ensures.value ∙ ap (λ (x : ℕ). x / c.unsigned_abs-n.result) m ∙ ap (λ (x : ℕ). nat_abs a / x) n in
+    let r : c.rest_of-rest.result ≡ nat_abs a % nat_abs b = c.rest_of-rest.ensures ∙ ap (λ (x : ℕ). x % c.unsigned_abs-n.result) m ∙ ap (λ (x : ℕ). nat_abs a % x) n in
+    let fit : SFits w32 c.signed.result = search rules in
+    let fit_rest : SFits w32 c.signed-2.result = search rules in
+    let Q = signed_is c.signed.result _ _ _ _ fit c.signed.ensures (differ _ _ _ _ s t) q in
+    let R = signed_is c.signed-2.result _ _ _ _ fit_rest c.signed-2.ensures u r in
     record {
       value = pair_is _ _ (counted a b) Q R;
-      sheet = lines_as _ _ _ _ _ _ _ _ m n (q ∙ sym (ap nat_abs Q ∙ magnitude_of _ _)) c.count-magnitudes-whole.ensures.sheet;
+      sheet = lines_as _ _ _ _ _ _ _ _ m n (q ∙ sym (ap nat_abs Q ∙ magnitude_of _ _)) c.count_magnitudes-whole.ensures.sheet;
     }

@@ -2,8 +2,8 @@ use Rattle.std.proofs.Common.{ℕ, ◌-◌, ◌/◌, ◌^◌, ap, ◌∙◌, ari
 use Rattle.bench.proofs.Cutting.{exponent_low, shifted, shifted_away}
 use Rattle.bench.proofs.count.whole_part.Goals as goal
 
-pub overflow-sub-shift : goal.overflow-sub-shift
-overflow-sub-shift c = omega (arith, c.exponent-shift.ensures, exponent_low c.args.x.significand c.args.x.exponent c.args.x.form.3 c.requires)
+pub overflow_sub-shift : goal.overflow_sub-shift
+overflow_sub-shift c = omega (arith, c.exponent-shift.ensures, exponent_low c.args.x.significand c.args.x.exponent c.args.x.form.3 c.requires)
 
 pub returns-then-shift-lt24 : goal.returns-then-shift-lt24
 returns-then-shift-lt24 c =

@@ -7,20 +7,20 @@ use Rattle.bench.proofs.fuse.fuse_exact.Goals as goal
 
 pub returns-in-Some : goal.returns-in-Some
 returns-in-Some c =
-    let p = c.register-of.ensures in
-    let q = c.register-of-2.ensures in
-    let r = c.register-of-addend.ensures in
-    fuse_some c.args.p c.args.q c.args.r (value c.register-of.result) (value c.register-of-2.result) (value c.register-of-addend.result)
+    let p = c.register_of.ensures in
+    let q = c.register_of-2.ensures in
+    let r = c.register_of-addend.ensures in
+    fuse_some c.args.p c.args.q c.args.r (value c.register_of.result) (value c.register_of-2.result) (value c.register_of-addend.result)
     (record { size = p.size; sign = p.sign }) (record { size = q.size; sign = q.sign }) (record { size = r.size; sign = r.sign })
     c.args.mode c.in-Some.sum c.in-Some.ensures.answer
 
 pub returns-in-None : goal.returns-in-None
 returns-in-None c =
-    let p = c.register-of.ensures in
-    let q = c.register-of-2.ensures in
-    let r = c.register-of-addend.ensures in
-    c.exact-zero.ensures
-    ∙ ap zero_rounded (c.zero-sign.ensures ∙ ap (λ (s : Bool). zero_sign c.args.mode s c.signs-differ.result) c.is-negative.ensures ∙ ap (zero_sign c.args.mode (is_negative c.args.r)) c.signs-differ.ensures)
-    ∙ fuse_none c.args.p c.args.q c.args.r (value c.register-of.result) (value c.register-of-2.result) (value c.register-of-addend.result)
+    let p = c.register_of.ensures in
+    let q = c.register_of-2.ensures in
+    let r = c.register_of-addend.ensures in
+    c.exact_zero.ensures
+    ∙ ap zero_rounded (c.zero_sign.ensures ∙ ap (λ (s : Bool). zero_sign c.args.mode s c.signs_differ.result) c.is_negative.ensures ∙ ap (zero_sign c.args.mode (is_negative c.args.r)) c.signs_differ.ensures)
+    ∙ fuse_none c.args.p c.args.q c.args.r (value c.register_of.result) (value c.register_of-2.result) (value c.register_of-addend.result)
     (record { size = p.size; sign = p.sign }) (record { size = q.size; sign = q.sign }) (record { size = r.size; sign = r.sign })
     c.args.mode c.in-None.ensures.answer

@@ -13,8 +13,8 @@ pub returns-then-x-y-2 : goal.returns-then-x-y-2
 returns-then-x-y-2 c =
     let x = c.args.x in
     let y = c.args.y in
-    let d = c.divide-doubling-left in
-    let n = c.nearest-rest in
+    let d = c.divide_doubling-left in
+    let n = c.nearest_rest in
     let e : y.exponent ≡ x.exponent + 1 = omega arith in
     let s = n.ensures.size (x.significand * 1) d.ensures.rest d.ensures.odd in
     let Y : y.significand * 2 ^ y.exponent ≡ 2 * y.significand * 2 ^ x.exponent = ap (λ (z : ℕ). y.significand * 2 ^ z) e ∙ power_more y.significand x.exponent ∙ sym (mul_assoc 2 y.significand (2 ^ x.exponent)) in
@@ -31,8 +31,8 @@ pub returns : goal.returns
 returns c =
     let x = c.args.x in
     let y = c.args.y in
-    let d = c.divide-doubling-left-2 in
-    let n = c.nearest-rest-2 in
+    let d = c.divide_doubling-left-2 in
+    let n = c.nearest_rest-2 in
     let t : ℕ = x.exponent - y.exponent in
     let s = n.ensures.size (x.significand * 2 ^ t) d.ensures.rest d.ensures.odd in
     let X : x.significand * 2 ^ x.exponent ≡ x.significand * 2 ^ t * 2 ^ y.exponent = raise_parts x.significand t y.exponent x.exponent (omega arith) in

@@ -4,7 +4,7 @@ use Rattle.bench.proofs.bench.Bench.remainder.Goals as goal
 
 pub returns : goal.returns
 returns g c =
-    let r = c.remainder-in.ensures in
+    let r = c.remainder_in.ensures in
     let mode = standing_mode c.args.self.now in
     record {
       answer = r.answer mode;
