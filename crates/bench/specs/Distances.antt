@@ -1,5 +1,5 @@
 -- The distance of a tab from the datum, from the differences of their places in whole micrometres: the root of the sum of the squares, each step rounded to nearest.
-use Rattle.std.specs.Prelude.{◌≡◌, ℕ, ◌*◌, ◌^◌, ◌<◌, ◌≤◌, Bool, false, cond, ◌||◌, List, ℤ, Ok, Err, Result, nat_lt, unsigned_abs}
+use Rattle.std.specs.Prelude.{◌≡◌, ℕ, ◌*◌, ◌^◌, ◌<◌, ◌≤◌, Bool, false, cond, ◌||◌, ℤ, Ok, Err, Result, nat_lt, unsigned_abs}
 use Rattle.registers.specs.declared.mode.Mode.{Mode}
 use Rattle.registers.specs.declared.mode.Mode.TheVariants.{NearestEven}
 use Rattle.registers.specs.declared.pattern.Pattern.{Pattern}

@@ -1,5 +1,5 @@
 -- The remainder of whole numbers by the nearest quotient.
-use Rattle.std.specs.Prelude.{◌≡◌, ℕ, ◌+◌, ◌-◌, ◌*◌, ◌/◌, ◌%◌, ◌<◌, ◌≤◌, Bool, ◌≢◌, nat_lt}
+use Rattle.std.specs.Prelude.{◌≡◌, ℕ, ◌+◌, ◌*◌, ◌/◌, ◌%◌, ◌<◌, ◌≤◌, Bool, ◌≢◌, nat_lt}
 use Rattle.registers.specs.Laws.{apart}
 use Rattle.registers.specs.Nearest.{upward}
 

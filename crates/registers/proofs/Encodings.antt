@@ -1,12 +1,12 @@
 -- The pattern of a magnitude of at most 24 bits, and back.
-use Rattle.std.proofs.Common.{◌≡◌, ℕ, ◌+◌, ◌-◌, ◌*◌, ◌/◌, ◌%◌, ◌^◌, ◌<◌, ◌≤◌, Bool, true, false, cond, eqb, ltb, leb, ◌⊎◌, sym, refl, ap, ◌∙◌, subst, inl, inr, mul-le-mul_right, mul_assoc, zero-mul, mul-one, div-one, arith, pow_mono, pow-add, shl_lt}
+use Rattle.std.proofs.Common.{◌≡◌, ℕ, ◌+◌, ◌-◌, ◌*◌, ◌^◌, ◌<◌, ◌≤◌, Bool, true, false, ◌⊎◌, sym, refl, ap, ◌∙◌, subst, inl, inr, mul-le-mul_right, mul_assoc, zero-mul, mul-one, div-one, arith, pow_mono, pow-add, shl_lt}
 use lib.Ieee.{size}
 use lib.Ieee.Digits.{size-lt, size-le}
-use Rattle.std.proofs.lemmas.Bool.{cases_lt, cases_eq, le-leb, lt-leb, le-ltb, ne_eqb, eq-eqb, eqb-true, eqb-false, ltb-false, cases_Bool}
+use Rattle.std.proofs.lemmas.Bool.{cases_lt, cases_eq, le-leb, lt-leb, le-ltb, ne_eqb, eq-eqb, ltb-false}
 use Rattle.std.proofs.lemmas.Nat.{shl-shr}
 use Rattle.registers.specs.Binary32.{magnitude}
 use Rattle.registers.specs.Modes.{with_sign}
-use Rattle.registers.specs.Coding.{Meaning, nan, infinite, finite, is_negative, unsigned, is_nan, is_quiet, meaning, encoded, encoding, Binary32Number}
+use Rattle.registers.specs.Coding.{Meaning, nan, infinite, finite, is_negative, unsigned, is_nan, meaning, encoded, encoding, Binary32Number}
 use Rattle.registers.proofs.Nearness.{size_at}
 use Rattle.registers.proofs.Fitting.{size_full, size_scale}
 use Rattle.registers.proofs.Grids.{magnitude_at, magnitude_low, pattern_view}

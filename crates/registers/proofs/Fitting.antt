@@ -1,9 +1,9 @@
 -- A held number rounded to a width.
-use Rattle.std.proofs.Common.{◌≡◌, ℕ, zero, suc, ◌+◌, ◌-◌, ◌*◌, ◌/◌, ◌%◌, ◌^◌, ◌<◌, ◌≤◌, Bool, true, false, cond, ◌&&◌, T, eqb, ltb, leb, ◌⊎◌, Ok, Err, Result, sym, refl, ap, ◌∙◌, subst, inl, inr, le_trans, lt_of_lt_of_le, add-zero, add_assoc, mul-le-mul_right, mod-lt, mul_assoc, suc-mul, mul_comm, div-lt_iff_lt-mul, add-mul, add_comm, mul-le-mul_left, mul-lt-mul_of_pos_right, mul-pos, le-div_iff_mul-le, zero-mul, mul-add, mul_right_comm, mul-div_cancel, arith, pow_pos, pow_mono, pow-add, shr_lt}
+use Rattle.std.proofs.Common.{◌≡◌, ℕ, suc, ◌+◌, ◌-◌, ◌*◌, ◌/◌, ◌%◌, ◌^◌, ◌<◌, ◌≤◌, Bool, true, false, T, sym, refl, ap, ◌∙◌, subst, inl, inr, le_trans, lt_of_lt_of_le, mul-le-mul_right, mul_assoc, suc-mul, div-lt_iff_lt-mul, add_comm, mul-lt-mul_of_pos_right, le-div_iff_mul-le, mul-div_cancel, arith, pow_pos, pow_mono, pow-add, shr_lt}
 use native.Mathlib.Nat.{two-pow-succ}
 use lib.Ieee.{size}
 use lib.Ieee.Digits.{size-lt, size-le, size_reaches}
-use Rattle.std.proofs.lemmas.Bool.{ltb-true, ltb-false, le-leb, lt-leb, ne_eqb, cases_Bool, cases_lt, and_from, and_left, and_right, cases_eq, eq-eqb}
+use Rattle.std.proofs.lemmas.Bool.{ltb-false, ne_eqb, cases_lt, cases_eq, eq-eqb}
 use Rattle.registers.specs.declared.cut.Side.{Side}
 use Rattle.registers.specs.declared.cut.Side.TheVariants.{On, Under, Half, Over}
 use Rattle.registers.specs.declared.mode.Way.TheVariants.{Nearest}

@@ -1,14 +1,14 @@
 -- A step whose exact sum is of a moderate size is not refused, and its line is of that size.
-use Rattle.std.proofs.Common.{◌≡◌, ℕ, zero, suc, ◌+◌, ◌-◌, ◌*◌, ◌/◌, ◌%◌, ◌^◌, ◌<◌, ◌≤◌, Bool, true, false, cond, ◌&&◌, ◌||◌, eqb, leb, ◌⊎◌, is_ok, Ok, Err, Result, sym, refl, ap, ◌∙◌, subst, inl, inr, mul-le-mul_right, mul_assoc, mul-le-mul_left, mul-pos, le_of_mul-le-mul_right, arith, pow_pos, pow_mono, pow-add}
+use Rattle.std.proofs.Common.{◌≡◌, ℕ, zero, suc, ◌+◌, ◌-◌, ◌*◌, ◌^◌, ◌<◌, ◌≤◌, Bool, true, false, cond, ◌&&◌, ◌||◌, eqb, leb, ◌⊎◌, is_ok, Ok, Err, Result, sym, refl, ap, subst, inl, inr, mul-le-mul_right, mul-pos, le_of_mul-le-mul_right, arith, pow_pos, pow_mono, pow-add}
 use native.Mathlib.Nat.{pow-succ'}
 use lib.Ieee.{size}
 use lib.Ieee.Digits.{size-lt, size-le}
-use Rattle.std.proofs.lemmas.Bool.{cases_Bool, cases_lt, eq-eqb, ne_eqb, le-leb, and_from, or_left, or_right}
+use Rattle.std.proofs.lemmas.Bool.{cases_lt, eq-eqb, le-leb, and_from, or_left, or_right}
 use Rattle.registers.specs.declared.register.Choice.{Choice}
 use Rattle.registers.specs.Nearest.{nearest}
-use Rattle.registers.specs.Range.{bias, bias_is, span, unit}
+use Rattle.registers.specs.Range.{bias, bias_is, span}
 use Rattle.registers.specs.Values.{Value}
-use Rattle.registers.specs.Fused.{in_range, kept, fused, fused_size, fused_sign}
+use Rattle.registers.specs.Fused.{kept, fused, fused_size, fused_sign}
 use Rattle.registers.proofs.Near.{Near}
 use Rattle.registers.proofs.Spacing.{order}
 use Rattle.registers.proofs.Nearness.{nearest_error}

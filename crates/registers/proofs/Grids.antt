@@ -1,12 +1,12 @@
 -- The patterns of binary32 in their order, the search among them, and what it consults.
-use Rattle.std.proofs.Common.{◌≡◌, ℕ, zero, suc, ◌+◌, ◌-◌, ◌*◌, ◌/◌, ◌%◌, ◌^◌, ◌<◌, ◌≤◌, Bool, true, false, cond, not, ◌&&◌, ◌||◌, eqb, ltb, leb, ◌⊎◌, sym, refl, ap, ◌∙◌, subst, inl, inr, le_trans, le_refl, add-zero, add_assoc, mul-le-mul_right, mul_assoc, suc-mul, mul_comm, add-mul, mul-le-mul_left, one-mul, pow-suc, div-add-mod', zero-add, mul-one, mul-add, arith, pow_pos, pow_mono, pow-add}
-use Prim.Native.Nat.{compare, Ordering}
+use Rattle.std.proofs.Common.{◌≡◌, ℕ, zero, suc, ◌+◌, ◌-◌, ◌*◌, ◌/◌, ◌%◌, ◌^◌, ◌<◌, ◌≤◌, Bool, true, false, cond, ltb, ◌⊎◌, sym, refl, ap, ◌∙◌, subst, inl, inr, le_refl, add-zero, mul_assoc, suc-mul, add-mul, one-mul, mul-one, arith, pow_pos, pow-add}
+use Prim.Native.Nat.{Ordering}
 use native.Mathlib.Nat.{pow-zero, two-pow-succ}
-use lib.Dec.{is_le, compare_is_eq}
-use lib.Pow.{high, low}
-use Rattle.std.proofs.lemmas.Bool.{lt-ltb, le-ltb, cases_lt, cases_Bool}
+use lib.Dec.{is_le}
+use lib.Pow.{low}
+use Rattle.std.proofs.lemmas.Bool.{lt-ltb, le-ltb, cases_lt}
 use Rattle.registers.specs.declared.mode.Way.{Way}
-use Rattle.registers.specs.Binary32.{magnitude, grid32, grid_wide, seek, place_on, rounding, from_low, goes_up, chosen, is_tiny, concluded, Short}
+use Rattle.registers.specs.Binary32.{magnitude, grid32, grid_wide, seek, place_on, rounding, from_low, chosen, is_tiny, concluded, Short}
 
 -- ---- magnitudes
 

@@ -1,8 +1,8 @@
 -- A held number over a power: what is kept, and on which side of the middle the rest lies.
-use Rattle.std.proofs.Common.{◌≡◌, ℕ, zero, suc, ◌+◌, ◌-◌, ◌*◌, ◌/◌, ◌%◌, ◌^◌, ◌<◌, ◌≤◌, Bool, true, false, cond, T, ltb, ◌⊎◌, sym, refl, ap, ◌∙◌, subst, inl, inr, add_assoc, mul-le-mul_right, mod-lt, mul_assoc, suc-mul, add-mul, mul-le-mul_left, mul-pos, zero-mul, arith, pow_pos, pow_mono, pow-add}
+use Rattle.std.proofs.Common.{◌≡◌, ℕ, zero, suc, ◌+◌, ◌-◌, ◌*◌, ◌/◌, ◌%◌, ◌^◌, ◌<◌, ◌≤◌, Bool, true, false, T, ◌⊎◌, sym, refl, ap, ◌∙◌, subst, inl, inr, add_assoc, mul-le-mul_right, mod-lt, mul_assoc, suc-mul, add-mul, mul-pos, zero-mul, arith, pow_pos, pow-add}
 use native.Mathlib.Nat.{two-pow-succ}
 use lib.Pow.{split}
-use Rattle.std.proofs.lemmas.Bool.{ltb-true, ltb-false, cases_lt}
+use Rattle.std.proofs.lemmas.Bool.{ltb-true, ltb-false}
 use Rattle.registers.specs.declared.cut.Side.{Side}
 use Rattle.registers.specs.declared.cut.Side.TheVariants.{On, Under, Half, Over}
 use Rattle.registers.specs.Held.{Held}

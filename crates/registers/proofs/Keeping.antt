@@ -1,11 +1,10 @@
 -- A rounded number as a register number: in range it is kept, else it is refused.
-use Rattle.std.proofs.Common.{◌≡◌, ℕ, ◌+◌, ◌-◌, ◌*◌, ◌/◌, ◌^◌, ◌<◌, ◌≤◌, Bool, true, false, cond, ◌&&◌, eqb, leb, Ok, Err, Result, sym, refl, ap, ◌∙◌, subst, mul_assoc, mul-pos, mul_right_comm, mul-div_cancel, arith, pow_pos, pow-add}
+use Rattle.std.proofs.Common.{◌≡◌, ℕ, ◌+◌, ◌-◌, ◌*◌, ◌/◌, ◌^◌, ◌<◌, Bool, true, false, ◌&&◌, eqb, leb, Ok, Err, sym, refl, ap, ◌∙◌, mul_assoc, mul-pos, mul_right_comm, mul-div_cancel, arith, pow_pos, pow-add}
 use native.Mathlib.Nat.{eq_of_mul-eq-mul_right}
 use lib.Ieee.{size}
 use Rattle.std.proofs.lemmas.Bool.{ne_eqb, and_parts, leb-true}
 use Rattle.registers.specs.Fused.{in_range, kept}
 use Rattle.registers.specs.Range.{bias, bias_is, span, unit}
-use Rattle.registers.specs.Values.{Value}
 use Rattle.registers.proofs.Fitting.{size_scale}
 
 -- sig other than zero, of `long` digits

@@ -1,9 +1,9 @@
 -- `nearest` keeps the laws of rounding to nearest.
-use Rattle.std.proofs.Common.{◌≡◌, ℕ, zero, suc, ◌+◌, ◌-◌, ◌*◌, ◌/◌, ◌%◌, ◌^◌, ◌<◌, ◌≤◌, ◌⊎◌, sym, refl, ap, ◌∙◌, subst, inl, inr, mul-le-mul_right, mod-lt, suc-mul, lt_of_mul-lt-mul_right, mul-le-mul_left, le_of_mul-le-mul_right, arith, pow_pos, pow_mono, pow-add}
+use Rattle.std.proofs.Common.{◌≡◌, ℕ, zero, suc, ◌+◌, ◌-◌, ◌*◌, ◌/◌, ◌%◌, ◌^◌, ◌<◌, ◌≤◌, ◌⊎◌, sym, ap, ◌∙◌, subst, inl, inr, mul-le-mul_right, mod-lt, suc-mul, lt_of_mul-lt-mul_right, mul-le-mul_left, le_of_mul-le-mul_right, arith, pow_pos, pow_mono, pow-add}
 use native.Mathlib.Nat.{pow-succ'}
 use lib.Pow.{split}
 use Rattle.std.proofs.lemmas.Bool.{cases_order, cases_lt}
-use Rattle.registers.specs.Nearest.{upward, multiple, nearest}
+use Rattle.registers.specs.Nearest.{upward, nearest}
 use Rattle.registers.specs.Laws.{apart, Bits, Rounds, NearestLaws}
 use Rattle.registers.proofs.Nearness.{upward_over, upward_tie, upward_under, multiple_is, multiple_close, nearest_view, nearest_at, nearest_exact, nearest_scale, nearest_error}
 

@@ -1,14 +1,13 @@
 -- Whole numbers are told in order, and a value has one right rounding.
-use Rattle.std.proofs.Common.{◌≡◌, ℕ, ◌+◌, ◌-◌, ◌*◌, ◌%◌, ◌^◌, ◌<◌, ◌≤◌, Bool, true, false, cond, not, ◌||◌, leb, ◌⊎◌, sym, refl, ap, ◌∙◌, subst, inl, inr, le_trans, mul-lt-mul_of_pos_right, mul-pos, zero-mul, arith, pow_pos}
+use Rattle.std.proofs.Common.{◌≡◌, ℕ, ◌+◌, ◌-◌, ◌*◌, ◌%◌, ◌^◌, ◌<◌, true, false, cond, leb, refl, ap, ◌∙◌, inl, inr, mul-lt-mul_of_pos_right, zero-mul, arith, pow_pos}
 use Prim.Native.Nat.{compare, Ordering}
-use lib.Dec.{is_le, compare_is_eq}
-use Rattle.std.proofs.lemmas.Bool.{cases_order, cases_lt, cases_eq, both_ways, leb-true, eqb-true, eqb-false}
-use Rattle.std.proofs.lemmas.Nat.{mul-lt}
+use lib.Dec.{is_le}
+use Rattle.std.proofs.lemmas.Bool.{cases_order, cases_eq, both_ways, leb-true, eqb-false}
 use Rattle.registers.specs.declared.mode.Way.{Way}
 use Rattle.registers.specs.declared.mode.Way.TheVariants.{Nearest, Inward, Outward}
-use Rattle.registers.specs.Range.{bias, bias_is, unit}
-use Rattle.registers.specs.Binary32.{grid32, seek, chosen, place_on, rounding, beyond, is_less, is_odd, beside_whole}
-use Rattle.registers.specs.Rightly.{Ordered, ByNearest, ByInward, ByOutward, Rightly}
+use Rattle.registers.specs.Range.{bias}
+use Rattle.registers.specs.Binary32.{grid32, place_on, rounding, beyond, is_less, is_odd, beside_whole}
+use Rattle.registers.specs.Rightly.{Ordered, ByNearest, Rightly}
 use Rattle.registers.proofs.Grids.{Rising, rising_mono}
 use Rattle.registers.proofs.Compared.{cmp_lt}
 

@@ -1,13 +1,12 @@
 -- A held number among the patterns of binary32.
-use Rattle.std.proofs.Common.{◌≡◌, ℕ, zero, suc, ◌+◌, ◌-◌, ◌*◌, ◌/◌, ◌%◌, ◌^◌, ◌<◌, ◌≤◌, Bool, true, false, cond, not, ◌&&◌, ◌||◌, T, eqb, ltb, leb, ◌⊎◌, sym, refl, ap, ◌∙◌, subst, inl, inr, le_trans, lt_of_lt_of_le, add-zero, mul-le-mul_right, mod-eq_of_lt, mul_assoc, suc-mul, mul_comm, add-mul, add_comm, lt_of_mul-lt-mul_right, mul-le-mul_left, mul-lt-mul_of_pos_right, mul-pos, one-mul, zero-add, zero-mul, mul-add, mul_left_comm, arith, pow_pos, pow_mono, pow-add, shl_lt, shr_lt}
+use Rattle.std.proofs.Common.{◌≡◌, ℕ, suc, ◌+◌, ◌-◌, ◌*◌, ◌/◌, ◌^◌, ◌<◌, ◌≤◌, Bool, true, false, cond, not, ◌&&◌, T, ltb, leb, ◌⊎◌, sym, refl, ap, ◌∙◌, subst, inl, inr, le_trans, lt_of_lt_of_le, mul-le-mul_right, mul_assoc, suc-mul, add-mul, add_comm, lt_of_mul-lt-mul_right, mul-le-mul_left, mul-pos, one-mul, zero-add, zero-mul, mul_left_comm, arith, pow_pos, pow_mono, pow-add, shl_lt, shr_lt}
 use Prim.Native.Nat.{compare, Ordering}
 use native.Mathlib.Nat.{two-pow-succ}
-use lib.Dec.{is_le, compare_is_eq}
+use lib.Dec.{is_le}
 use lib.Ieee.{size}
-use lib.Ieee.Digits.{size-lt, size-le, size_reaches}
-use Rattle.std.proofs.lemmas.Bool.{ltb-true, ltb-false, cases_lt, le-leb, lt-ltb, le-ltb, cases_Bool}
+use lib.Ieee.Digits.{size-lt, size-le}
+use Rattle.std.proofs.lemmas.Bool.{ltb-false, le-leb, lt-ltb, le-ltb, cases_Bool}
 use Rattle.registers.specs.declared.mode.Way.{Way}
-use Rattle.registers.specs.declared.mode.Way.TheVariants.{Nearest, Inward, Outward}
 use Rattle.registers.specs.declared.cut.Side.{Side}
 use Rattle.registers.specs.declared.cut.Side.TheVariants.{On, Under, Half, Over}
 use Rattle.registers.specs.Held.{Held}
@@ -19,7 +18,7 @@ use Rattle.registers.proofs.Compared.{cmp_lt, cmp_eq, cmp_gt}
 use Rattle.registers.proofs.Orders.{whole_ordered}
 use Rattle.registers.proofs.Rightness.{le_down, not_le_up, not_le_gt}
 use Rattle.registers.proofs.Fitting.{size_full}
-use Rattle.registers.proofs.Grids.{magnitude_at, magnitude_step, grid32_rises, grid_wide_rises, rising_mono, seek_finds, seek_reaches, seek_below}
+use Rattle.registers.proofs.Grids.{magnitude_at, magnitude_step, grid_wide_rises, rising_mono, seek_finds, seek_reaches, seek_below}
 
 -- where the lower neighbour L and the middle lie beside n
 orders_lower : (side : Side) (L r half a n : ℕ) → n ≡ L + r → Sided side r (2 * half) → a ≡ L → compare a n ≡ lower_of side

@@ -1,18 +1,16 @@
 -- What a fused step that is not refused says over whole numbers, and when it is not refused.
-use Rattle.std.proofs.Common.{◌≡◌, ℕ, zero, suc, ◌+◌, ◌-◌, ◌*◌, ◌/◌, ◌%◌, ◌^◌, ◌<◌, ◌≤◌, Bool, true, false, cond, ◌&&◌, ◌||◌, eqb, ltb, leb, ◌⊎◌, Ok, Err, Result, sym, refl, ap, ◌∙◌, subst, inl, inr, mul-le-mul_right, mul-le-mul_left, mul-pos, zero-mul, mul-div_cancel, arith, pow_pos, pow_mono, pow-add}
-use mathlib.Core.Bool.{beq}
-use native.Mathlib.Nat.{pow-succ', eq_of_mul-eq-mul_right}
+use Rattle.std.proofs.Common.{◌≡◌, ℕ, zero, ◌+◌, ◌*◌, ◌/◌, ◌^◌, ◌<◌, ◌≤◌, Bool, true, false, cond, ◌&&◌, ◌||◌, eqb, leb, ◌⊎◌, Ok, Err, Result, sym, refl, ap, ◌∙◌, subst, inl, inr, mul-le-mul_right, zero-mul, mul-div_cancel, arith, pow_pos, pow_mono, pow-add}
 use lib.Ieee.{size}
-use lib.Ieee.Digits.{size-lt, size-le, size_reaches}
-use Rattle.std.proofs.lemmas.Bool.{cases_order, cases_lt, cases_Bool, lt-ltb, le-ltb, eqb-true, eqb-false, eq-eqb, ne_eqb, leb-true, true≢false, false≢true, or_left, or_right}
+use lib.Ieee.Digits.{size-le}
+use Rattle.std.proofs.lemmas.Bool.{cases_order, cases_lt, lt-ltb, le-ltb, eqb-true, eqb-false, eq-eqb, leb-true, false≢true, or_left, or_right}
 use Rattle.registers.specs.Nearest.{nearest}
 use Rattle.registers.specs.Sums.{sum_size, sum_sign}
-use Rattle.registers.specs.Fused.{in_range, kept, fused, fused_at, fused_size, fused_sign, product_sign}
-use Rattle.registers.specs.Range.{bias, bias_is, span, unit}
+use Rattle.registers.specs.Fused.{kept, fused, fused_size, fused_sign, product_sign}
+use Rattle.registers.specs.Range.{bias, span}
 use Rattle.registers.specs.Values.{Value}
 use Rattle.registers.specs.declared.register.Choice.{Choice}
-use Rattle.registers.specs.Laws.{Rounds, Bits, apart}
-use Rattle.registers.specs.Lines.{adds, takes, Sum, ExactSum, FusedLine}
+use Rattle.registers.specs.Laws.{Rounds, Bits}
+use Rattle.registers.specs.Lines.{Sum, ExactSum, FusedLine}
 use Rattle.registers.proofs.Spacing.{Rounded, order, raise}
 use Rattle.registers.proofs.Near.{Near}
 use Rattle.registers.proofs.Lawful.{rounds, rounds_short, rounds_closest, unique}

@@ -1,12 +1,12 @@
 -- The rounding by search is the rounding that `Rightly` describes, of any value that `beside` tells.
-use Rattle.std.proofs.Common.{◌≡◌, ℕ, zero, suc, ◌+◌, ◌-◌, ◌*◌, ◌/◌, ◌%◌, ◌^◌, ◌<◌, ◌≤◌, Bool, true, false, cond, not, ◌&&◌, ◌||◌, eqb, ltb, leb, ◌⊎◌, sym, refl, ap, ◌∙◌, subst, inl, inr, zero-add, arith}
-use Prim.Native.Nat.{compare, Ordering}
+use Rattle.std.proofs.Common.{◌≡◌, ℕ, zero, suc, ◌+◌, ◌*◌, ◌%◌, ◌^◌, ◌<◌, ◌≤◌, Bool, true, false, cond, sym, refl, ap, ◌∙◌, subst, inl, inr, zero-add, arith}
+use Prim.Native.Nat.{Ordering}
 use native.Mathlib.Nat.{two-pow-succ}
-use lib.Dec.{is_le, compare_is_eq}
-use Rattle.std.proofs.lemmas.Bool.{cases_lt, cases_eq, cases_Bool, both_ways, ne_eqb, eq-eqb, eqb-true, eqb-false}
+use lib.Dec.{is_le}
+use Rattle.std.proofs.lemmas.Bool.{cases_lt, cases_eq, cases_Bool, both_ways, ne_eqb, eqb-true}
 use Rattle.registers.specs.declared.mode.Way.{Way}
 use Rattle.registers.specs.declared.mode.Way.TheVariants.{Nearest, Inward, Outward}
-use Rattle.registers.specs.Binary32.{seek, chosen, place_on, goes_up, is_less, is_odd}
+use Rattle.registers.specs.Binary32.{seek, chosen, place_on, is_less, is_odd}
 use Rattle.registers.specs.Rightly.{Ordered, ByNearest, ByInward, ByOutward, Rightly}
 use Rattle.registers.proofs.Grids.{Rising, rising_mono}
 

@@ -1,10 +1,8 @@
 -- A line by what is needed of its rounding, and lines whose two terms are not below zero.
-use Rattle.std.proofs.Common.{◌≡◌, ℕ, zero, suc, ◌+◌, ◌-◌, ◌*◌, ◌/◌, ◌%◌, ◌^◌, ◌<◌, ◌≤◌, Bool, true, false, cond, ◌⊎◌, sym, refl, ap, ◌∙◌, subst, inl, inr, mul-le-mul_right, mul-le-mul, lt_of_mul-lt-mul_right, mul-le-mul_left, mul-pos, le_of_mul-le-mul_right, arith, pow_pos, pow-add}
-use native.Mathlib.Nat.{le_dest, eq_of_mul-eq-mul_right}
-use Rattle.registers.proofs.Near.{Near, Near30}
-use Rattle.registers.specs.Laws.{Bits}
-use Rattle.registers.proofs.Spacing.{Rounded, order}
-use Rattle.registers.specs.Lines.{adds, takes, Sum, FusedLine}
+use Rattle.std.proofs.Common.{◌≡◌, ℕ, zero, ◌+◌, ◌*◌, ◌<◌, ◌≤◌, Bool, true, false, refl, subst, arith, pow_pos}
+use native.Mathlib.Nat.{eq_of_mul-eq-mul_right}
+use Rattle.registers.proofs.Spacing.{Rounded}
+use Rattle.registers.specs.Lines.{Sum, FusedLine}
 use Rattle.registers.proofs.Related.{rounded_of}
 
 -- a fused step, by what is needed of its rounding

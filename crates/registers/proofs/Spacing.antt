@@ -1,7 +1,7 @@
 -- Numbers of at most k bits: they keep a distance, and an odd factor takes no two away.
-use Rattle.std.proofs.Common.{◌≡◌, ℕ, zero, suc, ◌+◌, ◌-◌, ◌*◌, ◌/◌, ◌%◌, ◌^◌, ◌<◌, ◌≤◌, ◌⊎◌, sym, refl, ap, ◌∙◌, subst, inl, inr, mul-le-mul_right, mul-le-mul, lt_of_mul-lt-mul_right, mul-le-mul_left, le_of_mul-le-mul_right, arith, pow_pos, pow-add}
-use native.Mathlib.Nat.{le_dest, eq_of_mul-eq-mul_left, pow-succ'}
-use native.Mathlib.Decide.{dec_le, dec_lt}
+use Rattle.std.proofs.Common.{◌≡◌, ℕ, zero, suc, ◌+◌, ◌*◌, ◌/◌, ◌^◌, ◌<◌, ◌≤◌, ◌⊎◌, sym, ap, ◌∙◌, inl, inr, mul-le-mul_right, lt_of_mul-lt-mul_right, mul-le-mul_left, arith, pow-add}
+use native.Mathlib.Nat.{le_dest, pow-succ'}
+use native.Mathlib.Decide.{dec_le}
 use Rattle.registers.proofs.Near.{Near}
 use Rattle.registers.specs.Laws.{Bits, apart}
 

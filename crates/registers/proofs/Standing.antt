@@ -1,11 +1,11 @@
 -- The theorems on the rounding to binary32.
-use Rattle.std.proofs.Common.{◌≡◌, ℕ, ◌+◌, ◌*◌, ◌^◌, ◌<◌, ◌≤◌, Bool, true, false, cond, not, ◌&&◌, ◌||◌, leb, sym, refl, ap, le_trans, arith}
+use Rattle.std.proofs.Common.{◌≡◌, ℕ, ◌+◌, ◌*◌, ◌^◌, ◌≤◌, Bool, true, false, cond, not, ◌||◌, leb, sym, refl, ap, le_trans, arith}
 use Prim.Native.Nat.{Ordering}
 use lib.Dec.{compare_is_eq, is_le}
 use Rattle.std.proofs.lemmas.Bool.{both_ways, le-leb}
 use Rattle.registers.specs.declared.mode.Way.{Way}
 use Rattle.registers.specs.declared.mode.Mode.{Mode}
-use Rattle.registers.specs.Binary32.{Unsigned, chosen, goes_up, grid32, grid_wide, is_odd, magnitude, rounding, place_on, seek}
+use Rattle.registers.specs.Binary32.{chosen, goes_up, grid32, grid_wide, is_odd, magnitude, rounding, place_on, seek}
 use Rattle.registers.specs.Modes.{rounded, under_sign, way_of}
 use Rattle.registers.specs.Rightly.{Ordered, RightRounding, SameSideSameRounding, place_of}
 use Rattle.registers.proofs.Grids.{grid32_rises, grid_wide_rises, rising_mono, rounding_alike, seek_reaches}

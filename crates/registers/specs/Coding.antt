@@ -1,5 +1,5 @@
 -- What a pattern of binary32 stands for, and the pattern of a number.
-use Rattle.std.specs.Prelude.{◌≡◌, ℕ, ◌+◌, ◌-◌, ◌*◌, ◌/◌, ◌%◌, ◌^◌, ◌<◌, ◌≤◌, Bool, true, false, cond, ◌==◌, nat_le, nat_lt}
+use Rattle.std.specs.Prelude.{◌≡◌, ℕ, ◌+◌, ◌-◌, ◌*◌, ◌/◌, ◌%◌, ◌^◌, ◌<◌, ◌≤◌, Bool, false, cond, ◌==◌, nat_le, nat_lt}
 use Rattle.std.specs.Float.Ieee.{size}
 use Rattle.registers.specs.declared.pattern.Finite.{Finite}
 use Rattle.registers.specs.declared.pattern.Datum.{Datum}

@@ -1,5 +1,5 @@
 -- A fused step as a relation between whole numbers of units, for the analysis of chains of steps. One is W units, so that a product is in units of W * W.
-use Rattle.std.specs.Prelude.{◌≡◌, ℕ, zero, ◌+◌, ◌*◌, ◌<◌, Bool, false, cond}
+use Rattle.std.specs.Prelude.{◌≡◌, ℕ, zero, ◌+◌, ◌*◌, Bool, false, cond}
 use Rattle.registers.specs.Laws.{Rounds}
 
 -- what a number of a sign (true: below zero) and a magnitude adds, and what it takes away

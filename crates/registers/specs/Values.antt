@@ -1,5 +1,5 @@
 -- What a register number stands for: a sign and a whole number of units.
-use Rattle.std.specs.Prelude.{◌≡◌, ℕ, ◌+◌, ◌-◌, ◌*◌, ◌^◌, ◌<◌, ◌≤◌, Bool, false, ℤ, pos, ◌-ℤ◌, neg_ℤ, ◌≤ℤ◌}
+use Rattle.std.specs.Prelude.{◌≡◌, ℕ, ◌-◌, ◌*◌, ◌^◌, ◌<◌, ◌≤◌, Bool, false, ℤ, pos, ◌-ℤ◌, neg_ℤ, ◌≤ℤ◌}
 use Rattle.registers.specs.declared.pattern.Finite.{Finite}
 use Rattle.registers.specs.declared.register.Number.{Number}
 use Rattle.registers.specs.declared.register.Register.{Register}

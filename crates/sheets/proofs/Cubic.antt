@@ -1,6 +1,6 @@
 -- The identity that three steps of a root rest on: x·(3m - x)² is 4m³ less 3m·z² and up to z³, where x is z away from m.
 -- Where g is 3m - x up to d, x·g² stays below 4m³ but for d, and above it but for z² and d.
-use Rattle.std.proofs.Common.{◌≡◌, ℕ, ◌+◌, ◌-◌, ◌*◌, ◌≤◌, ◌⊎◌, ap, subst, subst₂, inl, inr, le_of_lt, mul-le-mul_right, mul-le-mul, mul-le-mul_left, arith}
+use Rattle.std.proofs.Common.{◌≡◌, ℕ, ◌+◌, ◌*◌, ◌≤◌, ◌⊎◌, ap, subst, subst₂, inl, inr, le_of_lt, mul-le-mul_right, mul-le-mul, mul-le-mul_left, arith}
 use native.Mathlib.Nat.{le_dest}
 use Rattle.registers.proofs.Near.{Near}
 use Rattle.registers.proofs.Spacing.{order}

@@ -1,5 +1,5 @@
 -- What a leaves over b·q1 has at most 30 bits, so that the residual r1 is exact.
-use Rattle.std.proofs.Common.{◌≡◌, ℕ, zero, suc, ◌+◌, ◌-◌, ◌*◌, ◌^◌, ◌<◌, ◌≤◌, sym, ap, ◌∙◌, inl, inr, mul-le-mul_right, lt_of_mul-lt-mul_right, mul-pos, arith, pow_pos, pow_mono, pow-add}
+use Rattle.std.proofs.Common.{◌≡◌, ℕ, zero, suc, ◌+◌, ◌*◌, ◌^◌, ◌<◌, ◌≤◌, sym, ap, ◌∙◌, inl, inr, mul-le-mul_right, lt_of_mul-lt-mul_right, mul-pos, arith, pow_pos, pow_mono, pow-add}
 use native.Mathlib.Nat.{lt_of_mul-lt-mul_left, eq_of_mul-eq-mul_right, pow-succ'}
 use Rattle.registers.proofs.Near.{Near}
 use Rattle.registers.specs.Laws.{Bits}

@@ -1,5 +1,5 @@
 -- What a leaves over s2² has at most 30 bits, so that the residual e2 is exact.
-use Rattle.std.proofs.Common.{◌≡◌, ℕ, zero, ◌+◌, ◌-◌, ◌*◌, ◌^◌, ◌<◌, ◌≤◌, ap, mul-pos, arith, pow_pos}
+use Rattle.std.proofs.Common.{◌≡◌, ℕ, zero, ◌+◌, ◌*◌, ◌^◌, ◌<◌, ◌≤◌, ap, mul-pos, arith, pow_pos}
 use native.Mathlib.Nat.{eq_of_mul-eq-mul_right}
 use Rattle.registers.proofs.Near.{Near}
 use Rattle.registers.specs.Laws.{Bits}

@@ -1,5 +1,5 @@
 -- Reading one digit more.
-use Rattle.std.proofs.Common.{◌≡◌, ℕ, ◌+◌, ◌*◌, ◌^◌, ◌<◌, ◌≤◌, List, [], length, get_or, drop, Some, None, Option, sym, refl, ap, ◌∙◌, lt_of_lt_of_le, add-one, arith, drop-cons, pow_mono, pow-add}
+use Rattle.std.proofs.Common.{◌≡◌, ℕ, ◌+◌, ◌*◌, ◌^◌, ◌<◌, ◌≤◌, List, length, get_or, drop, Some, None, Option, sym, ap, ◌∙◌, lt_of_lt_of_le, add-one, arith, drop-cons, pow_mono, pow-add}
 use Rattle.std.proofs.lemmas.List.{drop_all}
 use Rattle.words.specs.Reading.{next, read_on}
 

@@ -1,8 +1,5 @@
-use Rattle.std.proofs.Common.{◌≡◌, ℕ, ◌*◌, ◌%◌, ◌^◌, ◌≤◌, ℤ, nat_abs, refl, ap, ◌∙◌, arith, w64}
+use Rattle.std.proofs.Common.{◌≡◌, ℕ, nat_abs, refl, ap, ◌∙◌, w64}
 use Rattle.std.proofs.lemmas.Int.{to_z-of_z}
-use Rattle.registers.specs.declared.pattern.Pattern.{Pattern}
-use Rattle.registers.specs.Coding.{encoded}
-use Rattle.registers.specs.Modes.{with_sign}
 use Rattle.bench.specs.Counts.{is_below_zero}
 use Rattle.bench.specs.Distances.{whole_pattern}
 use Rattle.bench.proofs.whole.whole.Goals as goal

@@ -1,4 +1,4 @@
-use Rattle.std.proofs.Common.{ℕ, ◌-◌, ◌^◌, ap, ◌∙◌, arith, pow_pos}
+use Rattle.std.proofs.Common.{ℕ, ◌-◌, ap, ◌∙◌, arith, pow_pos}
 use lib.Bits.{bit_and}
 use Rattle.std.proofs.lemmas.Nat.{and_mask}
 use Rattle.registers.proofs.cut.low_bits.Goals as goal

@@ -1,4 +1,4 @@
-use Rattle.std.proofs.Common.{◌≡◌, ℕ, ◌+◌, ◌-◌, ◌*◌, ◌^◌, ◌<◌, ◌≤◌, sym, subst, arith, pow_pos}
+use Rattle.std.proofs.Common.{ℕ, ◌+◌, ◌-◌, ◌*◌, ◌^◌, ◌<◌, ◌≤◌, sym, subst, arith, pow_pos}
 use lib.Ieee.{size}
 use Rattle.registers.specs.Range.{bias_is, unit}
 use Rattle.registers.proofs.Placing.{tiny_not, tiny_yes, tiny_edge, held_full, held_below}

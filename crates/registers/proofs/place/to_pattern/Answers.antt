@@ -1,4 +1,4 @@
-use Rattle.std.proofs.Common.{◌≡◌, ℕ, ◌+◌, ◌-◌, ◌*◌, ◌^◌, ◌<◌, ◌≤◌, ◌⊎◌, sym, ap, ◌∙◌, subst, inl, inr, arith}
+use Rattle.std.proofs.Common.{◌≡◌, ℕ, ◌+◌, ◌-◌, ◌*◌, ◌^◌, ◌≤◌, ◌⊎◌, sym, ap, ◌∙◌, subst, inl, inr}
 use Rattle.registers.specs.declared.mode.Way.{Way}
 use Rattle.registers.specs.Binary32.{beside_whole, rounding}
 use Rattle.registers.specs.Modes.{under_sign}

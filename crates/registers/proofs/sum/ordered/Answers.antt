@@ -1,4 +1,4 @@
-use Rattle.std.proofs.Common.{◌≡◌, ℕ, ◌+◌, ◌-◌, ◌*◌, ◌^◌, ◌<◌, ◌≤◌, Bool, true, sym, refl, ap, ◌∙◌, subst, lt_of_lt_of_le, arith, pow_mono, shl_lt}
+use Rattle.std.proofs.Common.{◌≡◌, ℕ, ◌+◌, ◌-◌, ◌*◌, ◌^◌, ◌<◌, ◌≤◌, Bool, sym, refl, ap, ◌∙◌, subst, lt_of_lt_of_le, arith, pow_mono, shl_lt}
 use Rattle.registers.specs.Held.{Held}
 use Rattle.registers.specs.Sums.{sum_size, sum_sign}
 use Rattle.registers.proofs.Adding.{raise_parts, far_held}

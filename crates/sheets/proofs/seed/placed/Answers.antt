@@ -1,4 +1,4 @@
-use Rattle.std.proofs.Common.{◌+◌, ◌-◌, ◌*◌, ◌^◌, ◌≤◌, ap, ◌∙◌, arith}
+use Rattle.std.proofs.Common.{◌+◌, ◌*◌, ◌^◌, ◌≤◌, ap, ◌∙◌, arith}
 use Rattle.registers.specs.Range.{bias_is}
 use Rattle.sheets.proofs.Placing.{exponent_above, exponent_below, moved}
 use Rattle.sheets.proofs.seed.placed.Goals as goal

@@ -1,5 +1,5 @@
 -- Writing over a part of the page leaves the rest of it.
-use Rattle.std.proofs.Common.{◌-◌, arith}
+use Rattle.std.proofs.Common.{arith}
 use Rattle.text.specs.Pages.{line_text}
 use Rattle.text.proofs.Placing.{line_length, put_part}
 use Rattle.text.proofs.page.put.Goals as goal

@@ -1,4 +1,4 @@
-use Rattle.std.proofs.Common.{◌≡◌, ℕ, sym, ap, ◌∙◌}
+use Rattle.std.proofs.Common.{sym, ap, ◌∙◌}
 use Rattle.registers.specs.declared.pattern.Datum.{Datum}
 use Rattle.registers.specs.declared.pattern.Pattern.{Pattern}
 use Rattle.registers.specs.Coding.{denoted, encoding, meaning}

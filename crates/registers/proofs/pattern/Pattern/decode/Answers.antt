@@ -1,5 +1,5 @@
-use Rattle.std.proofs.Common.{◌≡◌, ◌^◌, ◌<◌, sym, ap, ◌∙◌, arith}
-use Rattle.registers.specs.Coding.{denoted, encoding, meaning, unsigned}
+use Rattle.std.proofs.Common.{◌^◌, ◌<◌, sym, ap, ◌∙◌, arith}
+use Rattle.registers.specs.Coding.{encoding, unsigned}
 use Rattle.registers.proofs.Encodings.{meaning_finite, pattern_back, zero_meaning}
 use Rattle.registers.proofs.pattern.Pattern.decode.Goals as goal
 

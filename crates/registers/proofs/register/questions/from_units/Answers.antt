@@ -1,5 +1,4 @@
-use Rattle.std.proofs.Common.{◌≡◌, ℕ, ap}
-use Rattle.registers.specs.Values.{Value}
+use Rattle.std.proofs.Common.{ℕ, ap}
 use Rattle.registers.proofs.Scaling.{finite_size}
 use Rattle.registers.proofs.register.questions.from_units.Goals as goal
 
