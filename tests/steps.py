@@ -1,5 +1,5 @@
 #!/usr/bin/env python3
-"""Holds the fused step and the rounding to binary32 beside exact fractions, over the library built as target/staticlib/libexports.a.
+"""Holds the fused step and the rounding to binary32 beside exact fractions, over the library built as crates/exports/out/libexports.a.
 
 usage: steps.py LIBRARY.so [CASES]     (tests/run builds the shared object)
 """
