@@ -49,10 +49,12 @@ def files():
 def declared():
     found = collections.defaultdict(set)
     for p in files():
-        if not p.endswith(".antt"):
-            continue
-        answers = p.endswith(("Answers.antt", "Invariants.antt", "Proof.antt"))
         text = open(p, encoding="utf-8").read()
+        if not p.endswith(".antt"):
+            for line in re.findall(r"(?m)^ *ghost use .*$", text):
+                for n in re.findall(r"\bas ([a-z]" + WORD + ")", line):
+                    found[n].add(p)
+            continue
         goals = set(re.findall(r"goal\.(" + WORD + ")", text))
         for line in text.splitlines():
             if line.lstrip().startswith("--"):
@@ -108,4 +110,5 @@ def main():
                 f.write(new)
 
 
-main()
+if __name__ == "__main__":
+    main()

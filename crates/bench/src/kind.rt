@@ -1,7 +1,7 @@
 //! The kinds of pattern.
 
 ghost use Rattle.std.specs.Prelude.{◌≡◌};
-ghost use Rattle.bench.specs.Kinds.{is_infinite, is_nan, is_negative, is_signalling, is_subnormal, is_zero, signs_differ, unsigned as unsignedOf};
+ghost use Rattle.bench.specs.Kinds.{is_infinite, is_nan, is_negative, is_signalling, is_subnormal, is_zero, signs_differ, unsigned as unsigned_of};
 ghost use Rattle.bench.specs.Tables.{infinity_of, zero_of};
 
 use registers::{Datum, Pattern};
@@ -11,7 +11,7 @@ const INFINITY: u32 = 0x7F80_0000;
 
 /// The pattern without its sign.
 pub(crate) fn unsigned(p: Pattern) -> u32
-    ensures { result ≡ unsignedOf p }
+    ensures { result ≡ unsigned_of p }
 {
     p.bits() % 0x8000_0000
 }

@@ -4,7 +4,7 @@ ghost use Rattle.std.specs.Prelude.{◌≡◌, ℕ, ◌+◌, ◌*◌, ◌^◌, �
 ghost use Rattle.std.proofs.Math.Dec.{compare_is_eq};
 ghost use Rattle.std.specs.Float.Ieee.{size};
 ghost use Rattle.registers.specs.Binary32.{beside_whole, concluded, is_tiny};
-ghost use Rattle.registers.specs.Binary32.{beyond as beyondOf};
+ghost use Rattle.registers.specs.Binary32.{beyond as beyond_of};
 ghost use Rattle.registers.specs.Held.{Holds};
 ghost use Rattle.registers.specs.Modes.{rounded, under_sign, way_of, with_sign};
 ghost use Rattle.registers.specs.Sides.{Splits, lower_of, middle_of};
@@ -82,7 +82,7 @@ fn is_exact(side: Side) -> bool
 
 /// What stands for a magnitude past the greatest finite one.
 fn beyond(way: Way) -> u32
-    ensures value { result ≡ beyondOf way }
+    ensures value { result ≡ beyond_of way }
     ensures small { result < 2 ^ 31 }
 {
     match way {

@@ -5,7 +5,7 @@ ghost use Rattle.registers.specs.declared.register.Choice.TheVariants.{Minus, Pl
 ghost use Rattle.registers.specs.Fused.{fused};
 ghost use Rattle.registers.specs.Values.{value};
 ghost use Rattle.sources.specs.Seeds.{plain};
-ghost use Rattle.sheets.specs.Operands.{half as halfValue, one as oneValue};
+ghost use Rattle.sheets.specs.Operands.{half as half_value, one as one_value};
 
 use crate::stored::number;
 use registers::limits::BIAS;
@@ -14,14 +14,14 @@ use registers::{Choice, Register};
 
 /// One.
 fn one() -> Register
-    ensures { value result ≡ oneValue }
+    ensures { value result ≡ one_value }
 {
     Register::Nonzero(number(BIAS, 0x2000_0000))
 }
 
 /// One half.
 fn half() -> Register
-    ensures { value result ≡ halfValue }
+    ensures { value result ≡ half_value }
 {
     Register::Nonzero(number(BIAS - 1, 0x2000_0000))
 }
@@ -52,16 +52,16 @@ pub(crate) fn residual(r: Register, p: Register, q: Register) -> Register
 
 /// `1 - p·q`, to 30 bits.
 pub(crate) fn residual_of_one(p: Register, q: Register) -> Register
-    requires { is_ok (fused 30 Minus oneValue (value p) (value q)) ≡ true }
-    ensures { fused 30 Minus oneValue (value p) (value q) ≡ Ok (value result) }
+    requires { is_ok (fused 30 Minus one_value (value p) (value q)) ≡ true }
+    ensures { fused 30 Minus one_value (value p) (value q) ≡ Ok (value result) }
 {
     residual(one(), p, q)
 }
 
 /// `1/2 - p·q`, to 30 bits.
 pub(crate) fn residual_of_half(p: Register, q: Register) -> Register
-    requires { is_ok (fused 30 Minus halfValue (value p) (value q)) ≡ true }
-    ensures { fused 30 Minus halfValue (value p) (value q) ≡ Ok (value result) }
+    requires { is_ok (fused 30 Minus half_value (value p) (value q)) ≡ true }
+    ensures { fused 30 Minus half_value (value p) (value q) ≡ Ok (value result) }
 {
     residual(half(), p, q)
 }

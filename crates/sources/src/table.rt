@@ -5,7 +5,7 @@ mod stored;
 ghost use Rattle.std.specs.Prelude.{◌≡◌, ◌+◌, ◌*◌, ◌^◌, ◌<◌, ◌≤◌};
 ghost use Rattle.registers.specs.Values.{number_value};
 ghost use Rattle.sources.specs.Entries.{NearestHalfRoot, NearestQuotient, middle, reciprocal_entry, reciprocal_index, root_entry, root_index, table_reciprocal, table_root};
-ghost use Rattle.sources.specs.Fractions.{fraction as fractionOf};
+ghost use Rattle.sources.specs.Fractions.{fraction as fraction_of};
 ghost use Rattle.sources.specs.Seeds.{plain};
 ghost use Rattle.sources.specs.Tabulated.{reciprocals_are_close, roots_are_close};
 
@@ -57,7 +57,7 @@ fn root_index(t: Radicand) -> usize
 /// An entry as a seed: the entry times `2^-11`.
 fn scaled(entry: u16) -> Number
     requires { (2 ^ 10 ≤ entry) × (entry < 2 ^ 11) }
-    ensures { number_value result ≡ plain (fractionOf entry 11) }
+    ensures { number_value result ≡ plain (fraction_of entry 11) }
 {
     fraction(entry as u32, 11)
 }

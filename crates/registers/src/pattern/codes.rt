@@ -1,7 +1,7 @@
 //! Decoding a pattern and encoding a number.
 
 ghost use Rattle.std.specs.Prelude.{◌≡◌, ◌+◌, ◌*◌, ◌^◌, ◌<◌};
-ghost use Rattle.registers.specs.Binary32.{magnitude as magnitudeOf};
+ghost use Rattle.registers.specs.Binary32.{magnitude as magnitude_of};
 ghost use Rattle.registers.specs.Coding.{NumberComesBack, PatternComesBack, denoted, encoded, encoding, finite, finite_meaning, meaning};
 
 use crate::pattern::{Datum, Finite, Pattern};
@@ -13,7 +13,7 @@ const INFINITY: u32 = 0x7F80_0000;
 /// The finite number other than zero of a sign and of a magnitude's pattern.
 fn finite_of(negative: bool, magnitude: u32) -> Finite
     requires { (0 < magnitude) × (magnitude < 0x7F800000) }
-    ensures { finite_meaning result ≡ finite negative (magnitudeOf magnitude) }
+    ensures { finite_meaning result ≡ finite negative (magnitude_of magnitude) }
 {
     if magnitude < 0x80_0000 {
         return Finite {
