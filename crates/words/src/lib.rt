@@ -2,6 +2,7 @@
 
 #![tactic(auto)]
 
+mod digits;
 pub mod hex;
 pub mod split;
 pub mod whole;

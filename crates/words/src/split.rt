@@ -7,12 +7,9 @@ ghost use Rattle.words.specs.Blanks.{FirstBlank};
 fn blank_at(line: &[u8]) -> usize
     ensures { FirstBlank line.now result }
 {
-    for (i, byte) in line.iter().enumerate() {
-        if *byte == b' ' {
-            return i;
-        }
-    }
-    line.len()
+    line.iter()
+        .position(|byte| *byte == b' ')
+        .unwrap_or(line.len())
 }
 
 /// The first word of a line, and what stands after the blank that ends it; nothing where no blank does.
@@ -20,9 +17,5 @@ pub fn first_word(line: &[u8]) -> (&[u8], Option<&[u8]>)
     ensures { (n : ℕ) × FirstBlank line.now n × (result.0.now ≡ take n line.now) × elim result.1 [ Some s ↦ s.now ≡ take (length line.now - (n + 1)) (drop (n + 1) line.now) | None ↦ n ≡ length line.now ] }
 {
     let end = blank_at(line);
-    if end < line.len() {
-        (&line[0..end], Some(&line[end + 1..line.len()]))
-    } else {
-        (&line[0..end], None)
-    }
+    (&line[..end], line.get(end + 1..))
 }
