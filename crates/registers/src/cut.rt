@@ -10,7 +10,7 @@ ghost use Rattle.registers.specs.Sides.{Sided, Splits, lower_of, middle_of, one}
 use crate::mode::Way;
 
 /// Where a number lies between two neighbours.
-#[derive(Clone, Copy)]
+#[derive(Clone, Copy, PartialEq, Eq)]
 pub(crate) enum Side {
     /// It is the lower one.
     On,

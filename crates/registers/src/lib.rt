@@ -5,15 +5,18 @@
 mod cut;
 mod exact;
 mod fit;
+mod fused;
 pub mod limits;
 pub mod mode;
 pub mod pattern;
 mod place;
 pub mod register;
-pub mod round;
-pub mod step;
+mod round;
+mod show;
+mod step;
 mod sum;
 
-pub use mode::{Mode, Rounded};
+pub use fused::FusedSum;
+pub use mode::{Mode, Rounded, UnknownMode};
 pub use pattern::{Datum, Finite, Pattern};
 pub use register::{Choice, Number, Refusal, Register};

@@ -13,7 +13,7 @@ pub struct Pattern {
 
 /// A finite number other than zero: `± significand · 2^exponent` units of `2^-149`.
 /// Its significand has 24 bits unless the exponent is 0, so that each number has one form.
-#[derive(Clone, Copy)]
+#[derive(Clone, Copy, PartialEq, Eq, Debug)]
 pub struct Finite {
     pub(crate) negative: bool,
     pub(crate) significand: u32,
@@ -22,7 +22,7 @@ pub struct Finite {
 }
 
 /// What a pattern stands for.
-#[derive(Clone, Copy)]
+#[derive(Clone, Copy, PartialEq, Eq, Debug)]
 pub enum Datum {
     Nan { quiet: bool },
     Infinity { negative: bool },

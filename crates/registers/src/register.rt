@@ -6,7 +6,7 @@ ghost use Rattle.std.specs.Prelude.{◌^◌, ◌<◌, ◌≤◌};
 ghost use Rattle.registers.specs.Range.{span};
 
 /// A register number other than zero: `± significand · 2^(exponent - 29)`, its exponent stored with `BIAS` added.
-#[derive(Clone, Copy)]
+#[derive(Clone, Copy, PartialEq, Eq, Debug)]
 pub struct Number {
     pub(crate) negative: bool,
     pub(crate) exponent: u32,
@@ -15,7 +15,7 @@ pub struct Number {
 }
 
 /// A register number. Zero has no sign.
-#[derive(Clone, Copy)]
+#[derive(Clone, Copy, PartialEq, Eq, Debug)]
 pub enum Register {
     Zero,
     Nonzero(Number),

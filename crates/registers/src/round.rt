@@ -8,10 +8,9 @@ ghost use Rattle.registers.specs.Rightly.{RightRounding, SameSideSameRounding};
 ghost use Rattle.registers.specs.Values.{value};
 
 use crate::exact::Exact;
+use crate::fused::FusedSum;
 use crate::mode::{Mode, Rounded};
 use crate::place::to_pattern;
-use crate::register::{Choice, Register};
-use crate::sum::exact_sum;
 
 /// A value rounded once to binary32, or nothing where it is zero.
 fn round_exact(x: Exact, mode: Mode) -> Option<Rounded>
@@ -25,43 +24,31 @@ fn round_exact(x: Exact, mode: Mode) -> Option<Rounded>
     Some(to_pattern(x, mode))
 }
 
-/// `r + p·q` or `r - p·q`, formed exactly and rounded once, straight to binary32, in a mode, with the flags that this raises.
-/// Nothing where the value is zero: the sign of a zero is the caller's to choose.
-pub fn round_fused(
-    r: Register,
-    choice: Choice,
-    p: Register,
-    q: Register,
-    mode: Mode,
-) -> Option<Rounded>
-    ensures answer { result ≡ fused_rounded mode choice (value r) (value p) (value q) }
-    ensures right { RightRounding }
-    ensures same_side { SameSideSameRounding }
-{
-    let exact = exact_sum(r, choice, p, q);
-    round_exact(exact, mode)
-}
+impl FusedSum {
+    /// The sum formed exactly and rounded once, straight to binary32, in a mode, with the flags that this raises.
+    /// Nothing where the value is zero: the sign of a zero is the caller's to choose.
+    pub fn round(self, mode: Mode) -> Option<Rounded>
+        ensures answer { result ≡ fused_rounded mode self.choice (value self.r) (value self.p) (value self.q) }
+        ensures right { RightRounding }
+        ensures same_side { SameSideSameRounding }
+    {
+        round_exact(self.exact(), mode)
+    }
 
-/// The magnitude of `r + p·q` or `r - p·q`, formed exactly and rounded once, straight to binary32, in a mode, under a sign that the caller gives.
-/// Nothing where the value is zero.
-pub fn round_magnitude(
-    r: Register,
-    choice: Choice,
-    p: Register,
-    q: Register,
-    negative: bool,
-    mode: Mode,
-) -> Option<Rounded>
-    ensures answer { result ≡ magnitude_rounded mode negative choice (value r) (value p) (value q) }
-    ensures right { RightRounding }
-    ensures same_side { SameSideSameRounding }
-{
-    let exact = exact_sum(r, choice, p, q);
-    let magnitude = Exact {
-        negative,
-        whole: exact.whole,
-        exponent: exact.exponent,
-        more: exact.more,
-    };
-    round_exact(magnitude, mode)
+    /// The sum's magnitude formed exactly and rounded once, straight to binary32, in a mode, under a sign that the caller gives.
+    /// Nothing where the value is zero.
+    pub fn round_magnitude(self, negative: bool, mode: Mode) -> Option<Rounded>
+        ensures answer { result ≡ magnitude_rounded mode negative self.choice (value self.r) (value self.p) (value self.q) }
+        ensures right { RightRounding }
+        ensures same_side { SameSideSameRounding }
+    {
+        let exact = self.exact();
+        let magnitude = Exact {
+            negative,
+            whole: exact.whole,
+            exponent: exact.exponent,
+            more: exact.more,
+        };
+        round_exact(magnitude, mode)
+    }
 }

@@ -10,6 +10,7 @@ ghost use Rattle.registers.specs.Sums.{sum_sign, sum_size};
 ghost use Rattle.registers.specs.Values.{Value, value};
 
 use crate::exact::{Exact, Term};
+use crate::fused::FusedSum;
 use crate::limits::UNIT;
 use crate::register::{Choice, Register};
 
@@ -171,11 +172,13 @@ fn product(choice: Choice, p: Register, q: Register) -> Term
     }
 }
 
-/// The exact value of `r + p·q` or `r - p·q`, in squared units.
-pub(crate) fn exact_sum(r: Register, choice: Choice, p: Register, q: Register) -> Exact
-    ensures held { Holds result (fused_size choice (value r) (value p) (value q)) }
-    ensures sign { result.negative ≡ fused_sign choice (value r) (value p) (value q) }
-    ensures low { result.exponent < 2 ^ 19 }
-{
-    sum(addend(r), product(choice, p, q))
+impl FusedSum {
+    /// Its exact value, in squared units.
+    pub(crate) fn exact(self) -> Exact
+        ensures held { Holds result (fused_size self.choice (value self.r) (value self.p) (value self.q)) }
+        ensures sign { result.negative ≡ fused_sign self.choice (value self.r) (value self.p) (value self.q) }
+        ensures low { result.exponent < 2 ^ 19 }
+    {
+        sum(addend(self.r), product(self.choice, self.p, self.q))
+    }
 }

@@ -3,7 +3,7 @@
 #[cfg(test)]
 mod tests {
     use registers::limits::{GREATEST_EXPONENT, LEAST_EXPONENT};
-    use registers::{Datum, Mode, Number, Pattern};
+    use registers::{Datum, Mode, Number, Pattern, UnknownMode};
 
     // Zeros, the least and the greatest subnormal numbers, the least normal, 1, 3, the greatest, and the infinities.
     const NUMBERS: [u32; 12] = [
@@ -28,26 +28,25 @@ mod tests {
         }
     }
 
-    fn is_quiet(bits: u32) -> Option<bool> {
-        match Pattern::from_bits(bits).decode() {
-            Datum::Nan { quiet } => Some(quiet),
-            _ => None,
-        }
-    }
+    // NaNs of either sign, and whether they are quiet.
+    const NANS: [(u32, bool); 4] = [
+        (0x7FC0_0000, true),
+        (0xFFFF_FFFF, true),
+        (0x7F80_0001, false),
+        (0xFFBF_FFFF, false),
+    ];
 
     #[test]
     fn every_nan_given_out_is_one(rt: HostRuntime) {
-        assert_eq!(rt; is_quiet(0x7FC0_0000), Some(true));
-        assert_eq!(rt; is_quiet(0xFFFF_FFFF), Some(true));
-        assert_eq!(rt; is_quiet(0x7F80_0001), Some(false));
-        assert_eq!(rt; is_quiet(0xFFBF_FFFF), Some(false));
-        assert_eq!(rt; is_quiet(0x7F80_0000), None);
-        for bits in [0x7FC0_0000, 0xFFFF_FFFF, 0x7F80_0001, 0xFFBF_FFFF] {
-            assert_eq!(rt;
-                Pattern::from_bits(bits).decode().encode().bits(),
-                0x7FC0_0000
-            );
+        for (bits, quiet) in NANS {
+            let nan = Pattern::from_bits(bits).decode();
+            assert_eq!(rt; nan, Datum::Nan { quiet });
+            assert_eq!(rt; nan.encode().bits(), 0x7FC0_0000);
         }
+        assert_eq!(rt;
+            Pattern::from_bits(0x7F80_0000).decode(),
+            Datum::Infinity { negative: false }
+        );
     }
 
     fn builds(exponent: i32, significand: u32) -> bool {
@@ -67,11 +66,13 @@ mod tests {
 
     #[test]
     fn modes_by_number(rt: HostRuntime) {
-        assert_eq!(rt; Mode::from_number(0), Some(Mode::NearestEven));
-        assert_eq!(rt; Mode::from_number(1), Some(Mode::Down));
-        assert_eq!(rt; Mode::from_number(2), Some(Mode::Up));
-        assert_eq!(rt; Mode::from_number(3), Some(Mode::TowardZero));
-        assert_eq!(rt; Mode::from_number(4), None);
-        assert_eq!(rt; Mode::from_number(u32::MAX), None);
+        let modes = [Mode::NearestEven, Mode::Down, Mode::Up, Mode::TowardZero];
+        for (n, mode) in [0, 1, 2, 3].into_iter().zip(modes) {
+            assert_eq!(rt; Mode::try_from(n), Ok(mode));
+            assert_eq!(rt; u32::from(mode), n);
+        }
+        for n in [4, u32::MAX] {
+            assert_eq!(rt; Mode::try_from(n), Err(UnknownMode(n)));
+        }
     }
 }

@@ -3,10 +3,7 @@
 #[cfg(test)]
 mod tests {
     use crate::operand::register;
-    use registers::round::round_fused;
-    use registers::{Choice, Mode};
-    use std::process::Abort;
-    use std::test::Fail;
+    use registers::{Choice, FusedSum, Mode, Pattern, Rounded};
 
     // The flags that a rounding raises; overflow and underflow come with inexact.
     #[derive(Clone, Copy, PartialEq, Eq, Debug)]
@@ -17,16 +14,17 @@ mod tests {
         Underflow,
     }
 
-    // A sum, and its rounding in the modes 0 to 3.
+    // A sum, and in each mode its pattern and what is raised.
     #[derive(Clone, Copy)]
     struct Row {
         r: u32,
         choice: Choice,
         p: u32,
         q: u32,
-        bits: [u32; 4],
-        raised: [Raised; 4],
+        rounded: [(u32, Raised); 4],
     }
+
+    const MODES: [Mode; 4] = [Mode::NearestEven, Mode::Down, Mode::Up, Mode::TowardZero];
 
     // Exact; half of the least number, of either sign; half of the last number below `2^-125`; twice the greatest; a tie at the
     // overflow threshold and just below it; ties to even from below and above, and just above a tie; a far smaller term added and
@@ -37,12 +35,11 @@ mod tests {
             choice: Choice::Plus,
             p: 0x3F80_0001,
             q: 0x3F80_0001,
-            bits: [0x2880_0000, 0x2880_0000, 0x2880_0000, 0x2880_0000],
-            raised: [
-                Raised::Nothing,
-                Raised::Nothing,
-                Raised::Nothing,
-                Raised::Nothing,
+            rounded: [
+                (0x2880_0000, Raised::Nothing),
+                (0x2880_0000, Raised::Nothing),
+                (0x2880_0000, Raised::Nothing),
+                (0x2880_0000, Raised::Nothing),
             ],
         },
         Row {
@@ -50,12 +47,11 @@ mod tests {
             choice: Choice::Plus,
             p: 0x0000_0001,
             q: 0x3F00_0000,
-            bits: [0x0000_0000, 0x0000_0000, 0x0000_0001, 0x0000_0000],
-            raised: [
-                Raised::Underflow,
-                Raised::Underflow,
-                Raised::Underflow,
-                Raised::Underflow,
+            rounded: [
+                (0x0000_0000, Raised::Underflow),
+                (0x0000_0000, Raised::Underflow),
+                (0x0000_0001, Raised::Underflow),
+                (0x0000_0000, Raised::Underflow),
             ],
         },
         Row {
@@ -63,12 +59,11 @@ mod tests {
             choice: Choice::Plus,
             p: 0x8000_0001,
             q: 0x3F00_0000,
-            bits: [0x8000_0000, 0x8000_0001, 0x8000_0000, 0x8000_0000],
-            raised: [
-                Raised::Underflow,
-                Raised::Underflow,
-                Raised::Underflow,
-                Raised::Underflow,
+            rounded: [
+                (0x8000_0000, Raised::Underflow),
+                (0x8000_0001, Raised::Underflow),
+                (0x8000_0000, Raised::Underflow),
+                (0x8000_0000, Raised::Underflow),
             ],
         },
         Row {
@@ -76,12 +71,11 @@ mod tests {
             choice: Choice::Plus,
             p: 0x00FF_FFFF,
             q: 0x3F00_0000,
-            bits: [0x0080_0000, 0x007F_FFFF, 0x0080_0000, 0x007F_FFFF],
-            raised: [
-                Raised::Underflow,
-                Raised::Underflow,
-                Raised::Underflow,
-                Raised::Underflow,
+            rounded: [
+                (0x0080_0000, Raised::Underflow),
+                (0x007F_FFFF, Raised::Underflow),
+                (0x0080_0000, Raised::Underflow),
+                (0x007F_FFFF, Raised::Underflow),
             ],
         },
         Row {
@@ -89,12 +83,11 @@ mod tests {
             choice: Choice::Plus,
             p: 0x80FF_FFFF,
             q: 0x3F00_0000,
-            bits: [0x8080_0000, 0x8080_0000, 0x807F_FFFF, 0x807F_FFFF],
-            raised: [
-                Raised::Underflow,
-                Raised::Underflow,
-                Raised::Underflow,
-                Raised::Underflow,
+            rounded: [
+                (0x8080_0000, Raised::Underflow),
+                (0x8080_0000, Raised::Underflow),
+                (0x807F_FFFF, Raised::Underflow),
+                (0x807F_FFFF, Raised::Underflow),
             ],
         },
         Row {
@@ -102,12 +95,11 @@ mod tests {
             choice: Choice::Plus,
             p: 0x7F7F_FFFF,
             q: 0x4000_0000,
-            bits: [0x7F80_0000, 0x7F7F_FFFF, 0x7F80_0000, 0x7F7F_FFFF],
-            raised: [
-                Raised::Overflow,
-                Raised::Overflow,
-                Raised::Overflow,
-                Raised::Overflow,
+            rounded: [
+                (0x7F80_0000, Raised::Overflow),
+                (0x7F7F_FFFF, Raised::Overflow),
+                (0x7F80_0000, Raised::Overflow),
+                (0x7F7F_FFFF, Raised::Overflow),
             ],
         },
         Row {
@@ -115,12 +107,11 @@ mod tests {
             choice: Choice::Plus,
             p: 0xFF7F_FFFF,
             q: 0x4000_0000,
-            bits: [0xFF80_0000, 0xFF80_0000, 0xFF7F_FFFF, 0xFF7F_FFFF],
-            raised: [
-                Raised::Overflow,
-                Raised::Overflow,
-                Raised::Overflow,
-                Raised::Overflow,
+            rounded: [
+                (0xFF80_0000, Raised::Overflow),
+                (0xFF80_0000, Raised::Overflow),
+                (0xFF7F_FFFF, Raised::Overflow),
+                (0xFF7F_FFFF, Raised::Overflow),
             ],
         },
         Row {
@@ -128,12 +119,11 @@ mod tests {
             choice: Choice::Plus,
             p: 0x7300_0000,
             q: 0x3F80_0000,
-            bits: [0x7F80_0000, 0x7F7F_FFFF, 0x7F80_0000, 0x7F7F_FFFF],
-            raised: [
-                Raised::Overflow,
-                Raised::Inexact,
-                Raised::Overflow,
-                Raised::Inexact,
+            rounded: [
+                (0x7F80_0000, Raised::Overflow),
+                (0x7F7F_FFFF, Raised::Inexact),
+                (0x7F80_0000, Raised::Overflow),
+                (0x7F7F_FFFF, Raised::Inexact),
             ],
         },
         Row {
@@ -141,12 +131,11 @@ mod tests {
             choice: Choice::Plus,
             p: 0x72FF_FFFF,
             q: 0x3F80_0000,
-            bits: [0x7F7F_FFFF, 0x7F7F_FFFF, 0x7F80_0000, 0x7F7F_FFFF],
-            raised: [
-                Raised::Inexact,
-                Raised::Inexact,
-                Raised::Overflow,
-                Raised::Inexact,
+            rounded: [
+                (0x7F7F_FFFF, Raised::Inexact),
+                (0x7F7F_FFFF, Raised::Inexact),
+                (0x7F80_0000, Raised::Overflow),
+                (0x7F7F_FFFF, Raised::Inexact),
             ],
         },
         Row {
@@ -154,12 +143,11 @@ mod tests {
             choice: Choice::Plus,
             p: 0x3380_0000,
             q: 0x3F80_0000,
-            bits: [0x3F80_0000, 0x3F80_0000, 0x3F80_0001, 0x3F80_0000],
-            raised: [
-                Raised::Inexact,
-                Raised::Inexact,
-                Raised::Inexact,
-                Raised::Inexact,
+            rounded: [
+                (0x3F80_0000, Raised::Inexact),
+                (0x3F80_0000, Raised::Inexact),
+                (0x3F80_0001, Raised::Inexact),
+                (0x3F80_0000, Raised::Inexact),
             ],
         },
         Row {
@@ -167,12 +155,11 @@ mod tests {
             choice: Choice::Plus,
             p: 0x3380_0000,
             q: 0x3F80_0000,
-            bits: [0x3F80_0002, 0x3F80_0001, 0x3F80_0002, 0x3F80_0001],
-            raised: [
-                Raised::Inexact,
-                Raised::Inexact,
-                Raised::Inexact,
-                Raised::Inexact,
+            rounded: [
+                (0x3F80_0002, Raised::Inexact),
+                (0x3F80_0001, Raised::Inexact),
+                (0x3F80_0002, Raised::Inexact),
+                (0x3F80_0001, Raised::Inexact),
             ],
         },
         Row {
@@ -180,12 +167,11 @@ mod tests {
             choice: Choice::Plus,
             p: 0x3380_0001,
             q: 0x3F80_0000,
-            bits: [0x3F80_0001, 0x3F80_0000, 0x3F80_0001, 0x3F80_0000],
-            raised: [
-                Raised::Inexact,
-                Raised::Inexact,
-                Raised::Inexact,
-                Raised::Inexact,
+            rounded: [
+                (0x3F80_0001, Raised::Inexact),
+                (0x3F80_0000, Raised::Inexact),
+                (0x3F80_0001, Raised::Inexact),
+                (0x3F80_0000, Raised::Inexact),
             ],
         },
         Row {
@@ -193,12 +179,11 @@ mod tests {
             choice: Choice::Plus,
             p: 0x0000_0001,
             q: 0x0000_0001,
-            bits: [0x3F80_0000, 0x3F80_0000, 0x3F80_0001, 0x3F80_0000],
-            raised: [
-                Raised::Inexact,
-                Raised::Inexact,
-                Raised::Inexact,
-                Raised::Inexact,
+            rounded: [
+                (0x3F80_0000, Raised::Inexact),
+                (0x3F80_0000, Raised::Inexact),
+                (0x3F80_0001, Raised::Inexact),
+                (0x3F80_0000, Raised::Inexact),
             ],
         },
         Row {
@@ -206,12 +191,11 @@ mod tests {
             choice: Choice::Minus,
             p: 0x0000_0001,
             q: 0x0000_0001,
-            bits: [0x3F80_0000, 0x3F7F_FFFF, 0x3F80_0000, 0x3F7F_FFFF],
-            raised: [
-                Raised::Inexact,
-                Raised::Inexact,
-                Raised::Inexact,
-                Raised::Inexact,
+            rounded: [
+                (0x3F80_0000, Raised::Inexact),
+                (0x3F7F_FFFF, Raised::Inexact),
+                (0x3F80_0000, Raised::Inexact),
+                (0x3F7F_FFFF, Raised::Inexact),
             ],
         },
         Row {
@@ -219,12 +203,11 @@ mod tests {
             choice: Choice::Plus,
             p: 0x3380_0000,
             q: 0x3F80_0000,
-            bits: [0x4000_0000, 0x3FFF_FFFF, 0x4000_0000, 0x3FFF_FFFF],
-            raised: [
-                Raised::Inexact,
-                Raised::Inexact,
-                Raised::Inexact,
-                Raised::Inexact,
+            rounded: [
+                (0x4000_0000, Raised::Inexact),
+                (0x3FFF_FFFF, Raised::Inexact),
+                (0x4000_0000, Raised::Inexact),
+                (0x3FFF_FFFF, Raised::Inexact),
             ],
         },
         Row {
@@ -232,12 +215,11 @@ mod tests {
             choice: Choice::Minus,
             p: 0x0000_0001,
             q: 0x3E80_0000,
-            bits: [0x0080_0000, 0x007F_FFFF, 0x0080_0000, 0x007F_FFFF],
-            raised: [
-                Raised::Inexact,
-                Raised::Underflow,
-                Raised::Inexact,
-                Raised::Underflow,
+            rounded: [
+                (0x0080_0000, Raised::Inexact),
+                (0x007F_FFFF, Raised::Underflow),
+                (0x0080_0000, Raised::Inexact),
+                (0x007F_FFFF, Raised::Underflow),
             ],
         },
         Row {
@@ -245,12 +227,11 @@ mod tests {
             choice: Choice::Minus,
             p: 0x0000_0001,
             q: 0x3F00_0000,
-            bits: [0x0080_0000, 0x007F_FFFF, 0x0080_0000, 0x007F_FFFF],
-            raised: [
-                Raised::Underflow,
-                Raised::Underflow,
-                Raised::Underflow,
-                Raised::Underflow,
+            rounded: [
+                (0x0080_0000, Raised::Underflow),
+                (0x007F_FFFF, Raised::Underflow),
+                (0x0080_0000, Raised::Underflow),
+                (0x007F_FFFF, Raised::Underflow),
             ],
         },
         Row {
@@ -258,12 +239,11 @@ mod tests {
             choice: Choice::Plus,
             p: 0x0000_0001,
             q: 0x0000_0001,
-            bits: [0x0000_0001, 0x0000_0001, 0x0000_0002, 0x0000_0001],
-            raised: [
-                Raised::Underflow,
-                Raised::Underflow,
-                Raised::Underflow,
-                Raised::Underflow,
+            rounded: [
+                (0x0000_0001, Raised::Underflow),
+                (0x0000_0001, Raised::Underflow),
+                (0x0000_0002, Raised::Underflow),
+                (0x0000_0001, Raised::Underflow),
             ],
         },
         Row {
@@ -271,73 +251,58 @@ mod tests {
             choice: Choice::Plus,
             p: 0x7F7F_FFFF,
             q: 0x7F7F_FFFF,
-            bits: [0x7F80_0000, 0x7F7F_FFFF, 0x7F80_0000, 0x7F7F_FFFF],
-            raised: [
-                Raised::Overflow,
-                Raised::Overflow,
-                Raised::Overflow,
-                Raised::Overflow,
+            rounded: [
+                (0x7F80_0000, Raised::Overflow),
+                (0x7F7F_FFFF, Raised::Overflow),
+                (0x7F80_0000, Raised::Overflow),
+                (0x7F7F_FFFF, Raised::Overflow),
             ],
         },
     ];
 
-    fn flags_of(inexact: bool, overflow: bool, underflow: bool) -> Raised {
-        match (inexact, overflow, underflow) {
-            (true, true, false) => Raised::Overflow,
-            (true, false, true) => Raised::Underflow,
-            (true, false, false) => Raised::Inexact,
-            _ => Raised::Nothing,
+    fn rounded(bits: u32, raised: Raised) -> Rounded {
+        Rounded {
+            pattern: Pattern::from_bits(bits),
+            inexact: raised != Raised::Nothing,
+            overflow: raised == Raised::Overflow,
+            underflow: raised == Raised::Underflow,
         }
     }
 
-    fn check_mode(
-        rt: &impl Abort,
-        row: Row,
-        mode: Mode,
-        bits: u32,
-        expected: Raised,
-    ) -> Result<(), Fail> {
-        let z = round_fused(
-            register(row.r),
-            row.choice,
-            register(row.p),
-            register(row.q),
-            mode,
-        )
-        .ok_or("zero")?;
-        assert_eq!(rt; z.pattern.bits(), bits);
-        assert_eq!(rt; flags_of(z.inexact, z.overflow, z.underflow), expected);
-        Ok(())
-    }
-
-    fn check_row(rt: &impl Abort, row: Row) -> Result<(), Fail> {
-        check_mode(rt, row, Mode::NearestEven, row.bits[0], row.raised[0])?;
-        check_mode(rt, row, Mode::Down, row.bits[1], row.raised[1])?;
-        check_mode(rt, row, Mode::Up, row.bits[2], row.raised[2])?;
-        check_mode(rt, row, Mode::TowardZero, row.bits[3], row.raised[3])
+    fn sum(row: Row) -> FusedSum {
+        FusedSum {
+            r: register(row.r),
+            choice: row.choice,
+            p: register(row.p),
+            q: register(row.q),
+        }
     }
 
     #[test]
-    fn sums_in_four_modes(rt: HostRuntime) -> Result<(), Fail> {
+    fn sums_in_four_modes(rt: HostRuntime) {
         for row in ROWS {
-            check_row(&rt, row)?;
+            for (mode, (bits, raised)) in MODES.into_iter().zip(row.rounded) {
+                assert_eq!(rt; sum(row).round(mode), Some(rounded(bits, raised)));
+            }
         }
-        Ok(())
     }
 
     #[test]
     fn a_sum_that_cancels_is_none(rt: HostRuntime) {
         let one = register(0x3F80_0000);
-        assert!(rt; round_fused(one, Choice::Minus, one, one, Mode::Down).is_none());
-        assert!(rt;
-            round_fused(
-                register(0),
-                Choice::Plus,
-                register(0x8000_0000),
-                one,
-                Mode::Down,
-            )
-            .is_none()
-        );
+        let cancelled = FusedSum {
+            r: one,
+            choice: Choice::Minus,
+            p: one,
+            q: one,
+        };
+        assert_eq!(rt; cancelled.round(Mode::Down), None);
+        let zeros = FusedSum {
+            r: register(0),
+            choice: Choice::Plus,
+            p: register(0x8000_0000),
+            q: one,
+        };
+        assert_eq!(rt; zeros.round(Mode::Down), None);
     }
 }

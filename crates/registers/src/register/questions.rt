@@ -45,13 +45,6 @@ impl Number {
         })
     }
 
-    /// A finite binary32 number, exactly.
-    pub fn from_finite(x: Finite) -> Number
-        ensures { number_value result ≡ finite_value x }
-    {
-        from_units(x.negative, x.significand, x.exponent)
-    }
-
     /// Whether it is below zero.
     pub fn is_negative(self) -> bool
         ensures { result ≡ self.negative }
@@ -74,12 +67,21 @@ impl Number {
     }
 }
 
-impl Refusal {
-    /// The refusal's number.
-    pub fn number(self) -> u32
-        ensures { result ≡ number_of self }
-    {
-        match self {
+/// A finite binary32 number, exactly.
+impl From<Finite> for Number {
+    ghost from_gives = { λ x n. number_value n ≡ finite_value x };
+
+    fn from(x: Finite) -> Number {
+        from_units(x.negative, x.significand, x.exponent)
+    }
+}
+
+/// The refusal's number.
+impl From<Refusal> for u32 {
+    ghost from_gives = { λ refusal n. n ≡ number_of refusal };
+
+    fn from(refusal: Refusal) -> u32 {
+        match refusal {
             Refusal::Width => 5,
             Refusal::Exponent => 7,
         }
