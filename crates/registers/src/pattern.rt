@@ -3,12 +3,31 @@
 pub mod codes;
 pub mod parts;
 
-ghost use Rattle.std.specs.Prelude.{◌^◌, ◌<◌, ◌≤◌};
+ghost use Rattle.std.specs.Prelude.{◌≡◌, ◌^◌, ◌<◌, ◌≤◌};
+
+/// The pattern of the infinity, without its sign.
+pub const INFINITY: u32 = 0x7F80_0000;
 
 /// A binary32 pattern.
 #[derive(Clone, Copy, PartialEq, Eq, Debug)]
 pub struct Pattern {
     pub(crate) bits: u32,
+}
+
+impl Pattern {
+    /// The pattern with these bits.
+    pub fn from_bits(bits: u32) -> Pattern
+        ensures { result.bits ≡ bits }
+    {
+        Pattern { bits }
+    }
+
+    /// Its bits.
+    pub fn bits(self) -> u32
+        ensures { result ≡ self.bits }
+    {
+        self.bits
+    }
 }
 
 /// A finite number other than zero: `± significand · 2^exponent` units of `2^-149`.

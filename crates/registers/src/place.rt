@@ -1,7 +1,6 @@
 //! An exact value rounded straight to a binary32 pattern.
 
 ghost use Rattle.std.specs.Prelude.{◌≡◌, ℕ, ◌+◌, ◌*◌, ◌^◌, ◌<◌, ◌≤◌};
-ghost use Rattle.std.proofs.Math.Dec.{compare_is_eq};
 ghost use Rattle.std.specs.Float.Ieee.{size};
 ghost use Rattle.registers.specs.Binary32.{beside_whole, concluded, is_tiny};
 ghost use Rattle.registers.specs.Binary32.{beyond as beyond_of};
@@ -13,10 +12,7 @@ use crate::cut::{Part, Side, goes_up, length, split};
 use crate::exact::Exact;
 use crate::limits::UNIT;
 use crate::mode::{Mode, Rounded, Way};
-use crate::pattern::Pattern;
-
-/// The pattern of the infinity, without its sign.
-const INFINITY: u32 = 0x7F80_0000;
+use crate::pattern::{INFINITY, Pattern};
 
 /// The greatest number of 24 bits.
 const LAST: u128 = 0xFF_FFFF;
@@ -70,16 +66,6 @@ fn is_tiny(x: Exact, top: u32, way: Way) -> bool
     !goes_up(way, part.side, true)
 }
 
-/// Whether a number is the lower one of its neighbours.
-fn is_exact(side: Side) -> bool
-    ensures { result ≡ compare_is_eq (lower_of side) }
-{
-    match side {
-        Side::On => true,
-        _ => false,
-    }
-}
-
 /// What stands for a magnitude past the greatest finite one.
 fn beyond(way: Way) -> u32
     ensures value { result ≡ beyond_of way }
@@ -110,11 +96,7 @@ fn conclude(way: Way, negative: bool, low: u32, side: Side, small: bool) -> Roun
     requires { low < 2 ^ 31 }
     ensures { result ≡ under_sign negative (concluded way low (lower_of side) (middle_of side) small) }
 {
-    let magnitude = if goes_up(way, side, low % 2 == 1) {
-        low + 1
-    } else {
-        low
-    };
+    let magnitude = low + u32::from(goes_up(way, side, low % 2 == 1));
     if magnitude >= INFINITY {
         return Rounded {
             pattern: with_sign(negative, beyond(way)),
@@ -123,7 +105,7 @@ fn conclude(way: Way, negative: bool, low: u32, side: Side, small: bool) -> Roun
             underflow: small,
         };
     }
-    let inexact = !is_exact(side);
+    let inexact = side != Side::On;
     Rounded {
         pattern: with_sign(negative, magnitude),
         inexact,
@@ -155,11 +137,7 @@ pub(crate) fn to_pattern(x: Exact, mode: Mode) -> Rounded
         return conclude(way, x.negative, INFINITY, Side::On, false);
     }
     let small = is_tiny(x, top, way);
-    let grain = if top < LEAST_GRAIN + 24 {
-        LEAST_GRAIN
-    } else {
-        top - 24
-    };
+    let grain = top.saturating_sub(24).max(LEAST_GRAIN);
     let part = place(x, grain);
     let low = (grain - LEAST_GRAIN) * 0x80_0000 + part.kept as u32;
     conclude(way, x.negative, low, part.side, small)

@@ -4,11 +4,8 @@ ghost use Rattle.std.specs.Prelude.{◌≡◌, ◌+◌, ◌*◌, ◌^◌, ◌<�
 ghost use Rattle.registers.specs.Binary32.{magnitude as magnitude_of};
 ghost use Rattle.registers.specs.Coding.{NumberComesBack, PatternComesBack, denoted, encoded, encoding, finite, finite_meaning, meaning};
 
-use crate::pattern::{Datum, Finite, Pattern};
+use crate::pattern::{Datum, Finite, INFINITY, Pattern};
 use crate::place::with_sign;
-
-/// The pattern of the infinity, without its sign.
-const INFINITY: u32 = 0x7F80_0000;
 
 /// The finite number other than zero of a sign and of a magnitude's pattern.
 fn finite_of(negative: bool, magnitude: u32) -> Finite
@@ -38,21 +35,6 @@ fn magnitude_of(x: Finite) -> u32
 }
 
 impl Pattern {
-    /// The pattern with these bits.
-    pub fn from_bits(bits: u32) -> Pattern
-        ensures { result.bits ≡ bits }
-    {
-        Pattern { bits }
-    }
-
-    /// Its bits.
-    pub fn bits(self) -> u32
-        ensures { result ≡ self.bits }
-    {
-        let Pattern { bits: all } = self;
-        all
-    }
-
     /// What it stands for. Every pattern but a NaN's comes back by `encode`.
     pub fn decode(self) -> Datum
         ensures value { denoted result ≡ meaning self.bits }

@@ -12,7 +12,7 @@ fn normal_form(negative: bool, significand: u32, exponent: u32) -> Finite
     ensures { finite_meaning result ≡ finite negative (significand * 2 ^ exponent) }
 {
     let short = 24 - length(significand as u128);
-    let shift = if short < exponent { short } else { exponent };
+    let shift = short.min(exponent);
     Finite {
         negative,
         significand: significand << shift,

@@ -14,19 +14,6 @@ use crate::register::{Number, Refusal};
 /// What makes the stored exponent of a finite binary32 number out of its exponent and the length of its significand.
 const BINARY32_SHIFT: u32 = UNIT - 149 - 30;
 
-/// The number of `± significand · 2^exponent` units of `2^-149`.
-fn from_units(negative: bool, significand: u32, exponent: u32) -> Number
-    requires { (0 < significand) × ((significand < 2 ^ 24) × (exponent ≤ 253)) }
-    ensures { number_value result ≡ record { negative = negative; units = significand * 2 ^ exponent * 2 ^ (bias - 149) } }
-{
-    let long = length(significand as u128);
-    Number {
-        negative,
-        exponent: exponent + long + BINARY32_SHIFT,
-        significand: normal(significand as u128, long),
-    }
-}
-
 impl Number {
     /// The number `± significand · 2^(exponent - 29)`, or nothing where the exponent or the significand is out of range.
     pub fn new(negative: bool, exponent: i32, significand: u32) -> Option<Number>
@@ -72,7 +59,12 @@ impl From<Finite> for Number {
     ghost from_gives = { λ x n. number_value n ≡ finite_value x };
 
     fn from(x: Finite) -> Number {
-        from_units(x.negative, x.significand, x.exponent)
+        let long = length(x.significand as u128);
+        Number {
+            negative: x.negative,
+            exponent: x.exponent + long + BINARY32_SHIFT,
+            significand: normal(x.significand as u128, long),
+        }
     }
 }
 
