@@ -1,2 +1,3 @@
 mod Same
 mod Steps
+pub mod Words

@@ -1,7 +1,12 @@
 //! The words of a line, which single blanks separate.
 
-ghost use Rattle.std.specs.Prelude.{◌≡◌, ℕ, ◌+◌, ◌-◌, ◌<◌, ◌≤◌, length, take, drop, Some, None};
-ghost use Rattle.words.specs.Blanks.{FirstBlank};
+ghost use Rattle.std.specs.Prelude.{◌≡◌, ℕ, ◌+◌, ◌-◌, ◌<◌, ◌≤◌, length, take, drop, ◌∷◌};
+ghost use Rattle.std.specs.Iterator.{YieldsFirstRef, item_count};
+ghost use Rattle.words.specs.Blanks.{AfterBlank, FirstBlank, words_left, words_of};
+
+/// The words of what is left of a line; nothing is left once no blank ended a word.
+#[derive(Drop)]
+pub struct Words<'a>(Option<&'a [u8]>);
 
 /// Where the first blank of a line stands, or its length where there is none.
 fn blank_at(line: &[u8]) -> usize
@@ -12,10 +17,43 @@ fn blank_at(line: &[u8]) -> usize
         .unwrap_or(line.len())
 }
 
+/// What stands after the blank at a place; nothing where the line ends there.
+fn after_blank(line: &[u8], end: usize) -> Option<&[u8]>
+    requires { end ≤ length line.now }
+    ensures { AfterBlank line.now end result }
+{
+    line.get(end + 1..)
+}
+
 /// The first word of a line, and what stands after the blank that ends it; nothing where no blank does.
+#[tactic(auto, using(crate::proofs::Words::words_from_first))]
 pub fn first_word(line: &[u8]) -> (&[u8], Option<&[u8]>)
-    ensures { (n : ℕ) × FirstBlank line.now n × (result.0.now ≡ take n line.now) × elim result.1 [ Some s ↦ s.now ≡ take (length line.now - (n + 1)) (drop (n + 1) line.now) | None ↦ n ≡ length line.now ] }
+    ensures words { words_of line.now ≡ result.0.now ∷ words_left result.1 }
+    ensures places { (n : ℕ) × FirstBlank line.now n × (result.0.now ≡ take n line.now) × AfterBlank line.now n result.1 }
 {
     let end = blank_at(line);
-    (&line[..end], line.get(end + 1..))
+    (&line[..end], after_blank(line, end))
+}
+
+impl<'a> Words<'a> {
+    /// The words of a line: one more than it has blanks, and any of them may be empty.
+    pub fn of(line: &'a [u8]) -> Words<'a>
+        ensures { words_left result.0 ≡ words_of line.now }
+    {
+        Words(Some(line))
+    }
+}
+
+impl<'a> Iterator for Words<'a> {
+    type Item = &'a [u8];
+
+    ghost next_gives = { YieldsFirstRef (λ s. words_left s.0) };
+
+    ghost remaining = { item_count (λ s. words_left s.0) };
+
+    fn next(&mut self) -> Option<&'a [u8]> {
+        let (word, rest) = first_word(self.0?);
+        self.0 = rest;
+        Some(word)
+    }
 }
