@@ -1,4 +1,6 @@
 pub mod Seeds
+pub mod Delivered
+pub mod Served
 pub mod Fractions
 pub mod Entries
 pub mod Rounds

@@ -3,8 +3,6 @@ use Rattle.std.specs.Prelude.{◌≡◌, ℕ, zero, ◌+◌, ◌-◌, ◌*◌, �
 use Rattle.std.proofs.Common.{mul-le-mul_right, le_of_mul-le-mul_right, mul_assoc, arith, sym, ap, ◌∙◌, pow_pos}
 use Rattle.registers.specs.Laws.{Bits}
 use Rattle.registers.specs.Range.{bias, bias_is}
-use Rattle.sources.specs.declared.operand.Significand.{Significand}
-use Rattle.sources.specs.declared.operand.Radicand.{Radicand}
 use Rattle.sources.specs.Convergence.{Inverse, InverseRoot}
 use Rattle.sources.specs.Fractions.{fraction}
 use Rattle.sources.specs.Seeds.{IsSignificand, IsRadicand, ReciprocalSeed, RootSeed}
@@ -32,13 +30,6 @@ ratio a = go (2 ^ (bias - 8)) (2 ^ bias) (scaled 8 (omega (arith, bias_is)))
     go u w e = omega (arith, ap (λ x. a * x) e)
 
 -- ---- the operands
-
--- the bits of an operand are in range
-pub is_significand : (b : Significand) → IsSignificand b.bits
-is_significand b = record { least = b.range.0; most = b.range.1 }
-
-pub is_radicand : (t : Radicand) → IsRadicand t.bits
-is_radicand t = record { least = t.range.0; most = t.range.1; even = t.range.2 }
 
 -- an operand n / 2 ^ 23
 pub operand_coarse : (n : ℕ) → Coarse (bias - 23) (fraction n 23)

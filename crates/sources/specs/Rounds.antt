@@ -28,17 +28,19 @@ reciprocal_round b y = then (step Minus (plain (fraction 1 0)) b y) (λ e. step 
 abbrev pub root_round : Value → Value → Result Value ℕ
 root_round t z = then (step Plus (plain 0) t z) (λ s. then (half z) (λ h. then (step Minus (plain (fraction 1 1)) s h) (λ d. step Plus z d z)))
 
--- from 361/256 - (120/256)·b, two rounds
-abbrev pub reciprocal_line : ℕ → Result Value ℕ
-reciprocal_line b =
-    let x = plain (fraction b 23) in
-    then (step Minus (plain (fraction 361 8)) (plain (fraction 120 8)) x) (λ y. then (reciprocal_round x y) (reciprocal_round x))
+-- from height/256 - (slope/256)·n, two rounds
+abbrev pub line_from : ℕ → ℕ → (Value → Value → Result Value ℕ) → ℕ → Result Value ℕ
+line_from height slope round n =
+    let x = plain (fraction n 23) in
+    then (step Minus (plain (fraction height 8)) (plain (fraction slope 8)) x) (λ y. then (round x y) (round x))
 
--- from 273/256 - (39/256)·t, two rounds
+-- from 361/256 - (120/256)·b
+abbrev pub reciprocal_line : ℕ → Result Value ℕ
+reciprocal_line b = line_from 361 120 reciprocal_round b
+
+-- from 273/256 - (39/256)·t
 abbrev pub root_line : ℕ → Result Value ℕ
-root_line t =
-    let x = plain (fraction t 23) in
-    then (step Minus (plain (fraction 273 8)) (plain (fraction 39 8)) x) (λ z. then (root_round x z) (root_round x))
+root_line t = line_from 273 39 root_round t
 
 -- the units of an answer; a refusal has none
 abbrev pub units_of : Result Value ℕ → ℕ
@@ -57,11 +59,13 @@ line_reciprocal b = units_of (reciprocal_line b)
 unfoldable pub line_root : ℕ → ℕ
 line_root t = units_of (root_line t)
 
--- One round from any seed within one part in K, K at least 29, is not refused and gives a seed within one part in 400.
+-- One round from any seed within one part in K, K at least 29, is not refused and gives a seed within one part in 400; seed K n y says that y is within one part in K for the operand n.
+abbrev pub RoundRefines : (ℕ → Type 0) → (ℕ → ℕ → ℕ → Type 0) → (Value → Value → Result Value ℕ) → Type 0
+RoundRefines Serves Seed round = (K n y : ℕ) → Serves n → 29 ≤ K → Seed K n y
+    → (y' : ℕ) × (round (plain (fraction n 23)) (plain y) ≡ Ok (plain y')) × Seed 400 n y'
+
 abbrev pub ReciprocalRoundRefines : Type 0
-ReciprocalRoundRefines = (K b y : ℕ) → IsSignificand b → 29 ≤ K → ReciprocalSeed K b y
-    → (y' : ℕ) × (reciprocal_round (plain (fraction b 23)) (plain y) ≡ Ok (plain y')) × ReciprocalSeed 400 b y'
+ReciprocalRoundRefines = RoundRefines IsSignificand ReciprocalSeed reciprocal_round
 
 abbrev pub RootRoundRefines : Type 0
-RootRoundRefines = (K t z : ℕ) → IsRadicand t → 29 ≤ K → RootSeed K t z
-    → (z' : ℕ) × (root_round (plain (fraction t 23)) (plain z) ≡ Ok (plain z')) × RootSeed 400 t z'
+RootRoundRefines = RoundRefines IsRadicand RootSeed root_round

@@ -2,6 +2,7 @@
 
 #![tactic(auto)]
 
+pub mod delivered;
 mod exact;
 pub mod line;
 pub mod operand;
@@ -11,7 +12,8 @@ pub mod table;
 #[cfg(test)]
 mod tests;
 
+pub use delivered::{Delivered, UnknownSource};
 pub use line::LineSource;
-pub use operand::{Radicand, Significand};
+pub use operand::{Operand, Question, Radicand, Reciprocal, Root, Significand};
 pub use source::Source;
 pub use table::TableSource;

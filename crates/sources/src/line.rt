@@ -1,57 +1,123 @@
 //! The line source: a seed is the value of a straight line at the operand, refined by two rounds.
 
-ghost use Rattle.std.specs.Prelude.{◌≡◌};
+ghost use Rattle.std.specs.Prelude.{◌≡◌, ◌<◌, ◌^◌, ℕ, Result};
+ghost use Rattle.std.proofs.Common.{rules};
 ghost use Rattle.registers.specs.Fused.{answered};
-ghost use Rattle.registers.specs.Values.{number_value};
-ghost use Rattle.sources.specs.Rounds.{ReciprocalRoundRefines, RootRoundRefines, line_reciprocal, line_root, reciprocal_line, root_line};
-ghost use Rattle.sources.specs.Seeds.{plain};
-ghost use Rattle.sources.specs.ReciprocalSteps.{reciprocals_are_close};
-ghost use Rattle.sources.specs.RootSteps.{roots_are_close};
+ghost use Rattle.registers.specs.Values.{Value, number_value, value};
+ghost use Rattle.sources.specs.Rounds.{Positive, RoundRefines, line_from, line_reciprocal, line_root, reciprocal_round, root_round, units_of};
+ghost use Rattle.sources.specs.Seeds.{ReciprocalSeed, RootSeed, plain};
+ghost use Rattle.sources.specs.ReciprocalSteps.{reciprocal_positive, reciprocal_refines, reciprocals_are_close};
+ghost use Rattle.sources.specs.RootSteps.{root_positive, root_refines, roots_are_close};
 
 use crate::exact::register;
-use crate::operand::{Radicand, Significand};
+use crate::operand::{Operand, Question, Radicand, Reciprocal, Root, Significand};
 use crate::refine::{given, reciprocal_round, root_round, step};
 use crate::source::Source;
 use registers::{Choice, Number, Refusal, Register};
 
-/// From `361/256 - (120/256)·b`, two rounds.
-fn reciprocal_line(b: Significand) -> Result<Register, Refusal>
-    ensures { answered result ≡ reciprocal_line b.bits }
-{
-    let x = register(b.bits(), 23);
-    let y = step(register(361, 8), Choice::Minus, register(120, 8), x)?;
-    let once = reciprocal_round(x, y)?;
-    reciprocal_round(x, once)
+/// A question whose seeds are refined from a straight line.
+trait Lined: Question {
+    /// The line at an operand of zero, and how much it falls for each one of the operand, in parts of 256.
+    ghost HEIGHT: { ℕ };
+
+    ghost SLOPE: { ℕ };
+
+    const HEIGHT: u32;
+
+    const SLOPE: u32;
+
+    /// One round of refining a seed, and what a seed within one part in K is.
+    ghost round: { Value → Value → Result Value ℕ };
+
+    ghost IsSeed: { ℕ → ℕ → ℕ → Type 0 };
+
+    /// One round on a seed for an operand.
+    fn round(operand: Register, seed: Register) -> Result<Register, Refusal>
+        ensures { answered result ≡ round (value operand) (value seed) };
+
+    ghost height_fits: { (0 < HEIGHT) × (HEIGHT < 2 ^ 30) };
+
+    ghost slope_fits: { (0 < SLOPE) × (SLOPE < 2 ^ 30) };
+
+    ghost refines: { RoundRefines Self.Serves IsSeed round };
+
+    ghost granted: { (n : ℕ) → Self.Serves n → Positive (line_from HEIGHT SLOPE round n) };
 }
 
-/// From `273/256 - (39/256)·t`, two rounds.
-fn root_line(t: Radicand) -> Result<Register, Refusal>
-    ensures { answered result ≡ root_line t.bits }
-{
-    let x = register(t.bits(), 23);
-    let z = step(register(273, 8), Choice::Minus, register(39, 8), x)?;
-    let once = root_round(x, z)?;
-    root_round(x, once)
+/// From `361/256 - (120/256)·b`.
+impl Lined for Reciprocal {
+    ghost HEIGHT = { 361 };
+
+    ghost SLOPE = { 120 };
+
+    const HEIGHT: u32 = 361;
+
+    const SLOPE: u32 = 120;
+
+    ghost round = { reciprocal_round };
+
+    ghost IsSeed = { ReciprocalSeed };
+
+    ghost height_fits = { Prim.search rules };
+
+    ghost slope_fits = { Prim.search rules };
+
+    ghost refines = { reciprocal_refines };
+
+    ghost granted = { reciprocal_positive };
+
+    fn round(b: Register, y: Register) -> Result<Register, Refusal> {
+        reciprocal_round(b, y)
+    }
 }
 
-/// The reciprocal seed of the line: no step is refused, as none is in a round from any seed within one part in 29.
-fn reciprocal_seed(b: Significand) -> Number
-    ensures value { number_value result ≡ plain (line_reciprocal b.bits) }
-    ensures refines { ReciprocalRoundRefines }
-{
-    given(reciprocal_line(b))
+/// From `273/256 - (39/256)·t`.
+impl Lined for Root {
+    ghost HEIGHT = { 273 };
+
+    ghost SLOPE = { 39 };
+
+    const HEIGHT: u32 = 273;
+
+    const SLOPE: u32 = 39;
+
+    ghost round = { root_round };
+
+    ghost IsSeed = { RootSeed };
+
+    ghost height_fits = { Prim.search rules };
+
+    ghost slope_fits = { Prim.search rules };
+
+    ghost refines = { root_refines };
+
+    ghost granted = { root_positive };
+
+    fn round(t: Register, z: Register) -> Result<Register, Refusal> {
+        root_round(t, z)
+    }
 }
 
-/// The root seed of the line: no step is refused, as none is in a round from any seed within one part in 29.
-fn root_seed(t: Radicand) -> Number
-    ensures value { number_value result ≡ plain (line_root t.bits) }
-    ensures refines { RootRoundRefines }
+/// From the line of a question, two rounds.
+fn line<Q: Lined>(operand: Operand<Q>) -> Result<Register, Refusal>
+    ensures { answered result ≡ line_from Q.HEIGHT Q.SLOPE Q.round operand.bits }
 {
-    given(root_line(t))
+    let x = register(operand.bits(), 23);
+    let start = step(register(Q::HEIGHT, 8), Choice::Minus, register(Q::SLOPE, 8), x)?;
+    let once = Q::round(x, start)?;
+    Q::round(x, once)
+}
+
+/// The seed of the line: no step is refused, as none is in a round from any seed within one part in 29.
+fn seed<Q: Lined>(operand: Operand<Q>) -> Number
+    ensures value { number_value result ≡ plain (units_of (line_from Q.HEIGHT Q.SLOPE Q.round operand.bits)) }
+    ensures refines { RoundRefines Q.Serves Q.IsSeed Q.round }
+{
+    given(line(operand))
 }
 
 /// The source whose seeds are computed from two straight lines.
-#[derive(Clone, Copy)]
+#[derive(Clone, Copy, PartialEq, Eq, Debug)]
 pub struct LineSource;
 
 impl Source for LineSource {
@@ -64,10 +130,10 @@ impl Source for LineSource {
     ghost roots_close = { λ s t h. roots_are_close t h };
 
     fn reciprocal(&self, b: Significand) -> Number {
-        reciprocal_seed(b)
+        seed(b)
     }
 
     fn root(&self, t: Radicand) -> Number {
-        root_seed(t)
+        seed(t)
     }
 }

@@ -2,68 +2,108 @@
 
 mod stored;
 
-ghost use Rattle.std.specs.Prelude.{◌≡◌, ◌+◌, ◌*◌, ◌^◌, ◌<◌, ◌≤◌};
+ghost use Rattle.std.specs.Prelude.{◌≡◌, ◌+◌, ◌*◌, ◌^◌, ◌<◌, ◌≤◌, ℕ, map};
+ghost use Rattle.std.specs.List.{range_with_len};
 ghost use Rattle.registers.specs.Values.{number_value};
 ghost use Rattle.sources.specs.Entries.{NearestHalfRoot, NearestQuotient, middle, reciprocal_entry, reciprocal_index, root_entry, root_index, table_reciprocal, table_root};
 ghost use Rattle.sources.specs.Fractions.{fraction as fraction_of};
 ghost use Rattle.sources.specs.Seeds.{plain};
-ghost use Rattle.sources.specs.Tabulated.{reciprocals_are_close, roots_are_close};
+ghost use Rattle.sources.specs.Tabulated.{reciprocal_long, reciprocal_nearest, reciprocals_are_close, root_long, root_nearest, roots_are_close};
 
 use crate::exact::fraction;
-use crate::operand::{Radicand, Significand};
+use crate::operand::{Operand, Question, Radicand, Reciprocal, Root, Significand};
 use crate::source::Source;
-use crate::table::stored::{reciprocals, roots};
+use crate::table::stored::{RECIPROCALS, ROOTS};
 use registers::Number;
 
-/// An entry of the table of reciprocals.
-fn reciprocal_entry(i: usize) -> u16
-    requires { i < 256 }
-    ensures value { result ≡ reciprocal_entry i }
-    ensures bound { (2 ^ 10 ≤ result) × (result < 2 ^ 11) }
-    ensures nearest { NearestQuotient (2 ^ 20) (513 + 2 * i) (reciprocal_entry i) }
-{
-    reciprocals()[i]
+/// A question whose seeds stand in a table of 256 entries.
+trait Tabulated: Question {
+    /// The entry at each place, the place of the entry that serves an operand, and what it is for an entry to be nearest.
+    ghost entry: { ℕ → ℕ };
+
+    ghost index: { ℕ → ℕ };
+
+    ghost IsNearest: { ℕ → ℕ → Type 0 };
+
+    /// The table.
+    fn table() -> &'static [u16; 256]
+        ensures { result.now ≡ map entry (range_with_len 0 256) };
+
+    /// The place of the entry that serves an operand.
+    fn index(bits: u32) -> usize
+        requires { Self.Serves bits }
+        ensures { (result ≡ index bits) × (result < 256) };
+
+    ghost long: { (i : ℕ) → i < 256 → (2 ^ 10 ≤ entry i) × (entry i < 2 ^ 11) };
+
+    ghost nearest: { (i : ℕ) → i < 256 → IsNearest i (entry i) };
 }
 
-/// An entry of the table of roots.
-fn root_entry(i: usize) -> u16
-    requires { i < 256 }
-    ensures value { result ≡ root_entry i }
-    ensures bound { (2 ^ 10 ≤ result) × (result < 2 ^ 11) }
-    ensures nearest { NearestHalfRoot (2 ^ 32) (middle i) (root_entry i) }
-{
-    roots()[i]
-}
+impl Tabulated for Reciprocal {
+    ghost entry = { reciprocal_entry };
 
-/// The top eight fraction bits of a significand.
-fn reciprocal_index(b: Significand) -> usize
-    ensures { (result ≡ reciprocal_index b.bits) × (result < 256) }
-{
-    ((b.bits() - 0x80_0000) >> 15) as usize
-}
+    ghost index = { reciprocal_index };
 
-/// The seven bits of a radicand after its highest one, and 128 more from 2 up.
-fn root_index(t: Radicand) -> usize
-    ensures { (result ≡ root_index t.bits) × (result < 256) }
-{
-    let bits = t.bits();
-    if bits < 0x100_0000 {
-        ((bits - 0x80_0000) >> 16) as usize
-    } else {
-        128 + ((bits - 0x100_0000) >> 17) as usize
+    ghost IsNearest = { λ i e. NearestQuotient (2 ^ 20) (513 + 2 * i) e };
+
+    ghost long = { reciprocal_long };
+
+    ghost nearest = { reciprocal_nearest };
+
+    fn table() -> &'static [u16; 256] {
+        &RECIPROCALS
+    }
+
+    /// The top eight fraction bits of a significand.
+    fn index(bits: u32) -> usize {
+        ((bits - 0x80_0000) >> 15) as usize
     }
 }
 
-/// An entry as a seed: the entry times `2^-11`.
-fn scaled(entry: u16) -> Number
-    requires { (2 ^ 10 ≤ entry) × (entry < 2 ^ 11) }
-    ensures { number_value result ≡ plain (fraction_of entry 11) }
+impl Tabulated for Root {
+    ghost entry = { root_entry };
+
+    ghost index = { root_index };
+
+    ghost IsNearest = { λ i e. NearestHalfRoot (2 ^ 32) (middle i) e };
+
+    ghost long = { root_long };
+
+    ghost nearest = { root_nearest };
+
+    fn table() -> &'static [u16; 256] {
+        &ROOTS
+    }
+
+    /// The seven bits of a radicand after its highest one, and 128 more from 2 up.
+    fn index(bits: u32) -> usize {
+        if bits < 0x100_0000 {
+            ((bits - 0x80_0000) >> 16) as usize
+        } else {
+            128 + ((bits - 0x100_0000) >> 17) as usize
+        }
+    }
+}
+
+/// An entry of a question's table.
+fn entry<Q: Tabulated>(i: usize) -> u16
+    requires { i < 256 }
+    ensures value { result ≡ Q.entry i }
+    ensures bound { (2 ^ 10 ≤ result) × (result < 2 ^ 11) }
+    ensures nearest { Q.IsNearest i (Q.entry i) }
 {
-    fraction(entry as u32, 11)
+    Q::table()[i]
+}
+
+/// The seed for an operand: the entry that serves it, times `2^-11`.
+fn seed<Q: Tabulated>(operand: Operand<Q>) -> Number
+    ensures { number_value result ≡ plain (fraction_of (Q.entry (Q.index operand.bits)) 11) }
+{
+    fraction(entry::<Q>(Q::index(operand.bits())).into(), 11)
 }
 
 /// The source whose seeds stand in two tables of 256 entries.
-#[derive(Clone, Copy)]
+#[derive(Clone, Copy, PartialEq, Eq, Debug)]
 pub struct TableSource;
 
 impl Source for TableSource {
@@ -76,10 +116,10 @@ impl Source for TableSource {
     ghost roots_close = { λ s t h. roots_are_close t h };
 
     fn reciprocal(&self, b: Significand) -> Number {
-        scaled(reciprocal_entry(reciprocal_index(b)))
+        seed(b)
     }
 
     fn root(&self, t: Radicand) -> Number {
-        scaled(root_entry(root_index(t)))
+        seed(t)
     }
 }

@@ -1,11 +1,7 @@
 //! The two tables as they are stored.
 
-ghost use Rattle.std.specs.Prelude.{◌≡◌, map};
-ghost use Rattle.std.specs.List.{range_with_len};
-ghost use Rattle.sources.specs.Entries.{reciprocal_rule, root_rule};
-
 /// Entry `i` is the whole number nearest to `2^20 / (513 + 2i)`.
-static RECIPROCALS: [u16; 256] = [
+pub(super) static RECIPROCALS: [u16; 256] = [
     2044, 2036, 2028, 2020, 2013, 2005, 1997, 1990, 1982, 1975, 1967, 1960, 1953, 1945, 1938, 1931,
     1924, 1917, 1910, 1903, 1896, 1889, 1883, 1876, 1869, 1862, 1856, 1849, 1843, 1836, 1830, 1824,
     1817, 1811, 1805, 1799, 1792, 1786, 1780, 1774, 1768, 1762, 1756, 1751, 1745, 1739, 1733, 1727,
@@ -25,7 +21,7 @@ static RECIPROCALS: [u16; 256] = [
 ];
 
 /// Entry `j` below 128 is the whole number nearest to `2^11 / √c`, `c = (257 + 2j) / 256`; at entry `128 + j`, `c` is doubled.
-static ROOTS: [u16; 256] = [
+pub(super) static ROOTS: [u16; 256] = [
     2044, 2036, 2028, 2021, 2013, 2005, 1998, 1991, 1983, 1976, 1969, 1962, 1955, 1948, 1941, 1934,
     1928, 1921, 1914, 1908, 1901, 1895, 1889, 1882, 1876, 1870, 1864, 1858, 1852, 1846, 1840, 1835,
     1829, 1823, 1818, 1812, 1807, 1801, 1796, 1790, 1785, 1780, 1774, 1769, 1764, 1759, 1754, 1749,
@@ -43,17 +39,3 @@ static ROOTS: [u16; 256] = [
     1093, 1091, 1089, 1086, 1084, 1082, 1079, 1077, 1075, 1072, 1070, 1068, 1065, 1063, 1061, 1059,
     1056, 1054, 1052, 1050, 1048, 1046, 1044, 1041, 1039, 1037, 1035, 1033, 1031, 1029, 1027, 1025,
 ];
-
-/// The table of reciprocals.
-pub(crate) fn reciprocals() -> &'static [u16; 256]
-    ensures { result.now ≡ map reciprocal_rule (range_with_len 0 256) }
-{
-    &RECIPROCALS
-}
-
-/// The table of roots.
-pub(crate) fn roots() -> &'static [u16; 256]
-    ensures { result.now ≡ map root_rule (range_with_len 0 256) }
-{
-    &ROOTS
-}
