@@ -5,7 +5,7 @@ use Rattle.registers.specs.Laws.{Bits}
 use Rattle.registers.specs.Range.{bias, bias_is}
 use Rattle.sources.specs.Convergence.{Inverse, InverseRoot}
 use Rattle.sources.specs.Fractions.{fraction}
-use Rattle.sources.specs.Seeds.{IsSignificand, IsRadicand, ReciprocalSeed, RootSeed}
+use Rattle.sources.specs.Seeds.{ReciprocalSeed, RootSeed}
 use Rattle.sources.specs.Grain.{Coarse, scaled}
 
 -- ---- the constants

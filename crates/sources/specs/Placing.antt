@@ -24,6 +24,10 @@ built None negative e S b h = absurd (h b)
 pub built_as : (r : Option Number) (n : Number) (negative : Bool) (e : ℤ) (S : ℕ) → r ≡ Some n → MatchOption r (Buildable e S → ⊥) (λ n. Built negative e S n) → Built negative e S n
 built_as r n negative e S is h = subst (λ (o : Option Number). MatchOption o (Buildable e S → ⊥) (λ n. Built negative e S n)) is h
 
+-- what is not there cannot be built
+pub not_built : (r : Option Number) (negative : Bool) (e : ℤ) (S : ℕ) → r ≡ None → MatchOption r (Buildable e S → ⊥) (λ n. Built negative e S n) → Buildable e S → ⊥
+not_built r negative e S is h = subst (λ (o : Option Number). MatchOption o (Buildable e S → ⊥) (λ n. Built negative e S n)) is h
+
 -- a of at most 30 bits and its leading zeros, of 32 bits
 module _ (a : ℕ) (some : 0 < a) (few : a < 2 ^ 30) where
   top : (j : ℕ) × (count_leading_zeros 32 a + suc j ≡ 32) × (2 ^ j ≤ a) × (a < 2 ^ suc j)

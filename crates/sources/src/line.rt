@@ -11,36 +11,41 @@ ghost use Rattle.sources.specs.RootSteps.{root_positive, root_refines, roots_are
 
 use crate::exact::register;
 use crate::operand::{Operand, Question, Radicand, Reciprocal, Root, Significand};
-use crate::refine::{given, reciprocal_round, root_round, step};
+use crate::refine::{given, half, step};
 use crate::source::Source;
 use registers::{Choice, Number, Refusal, Register};
 
 /// A question whose seeds are refined from a straight line.
 trait Lined: Question {
-    /// The line at an operand of zero, and how much it falls for each one of the operand, in parts of 256.
+    /// The line at an operand of zero, in parts of 256.
     ghost HEIGHT: { ℕ };
 
+    /// How much the line falls for each one of the operand, in parts of 256.
     ghost SLOPE: { ℕ };
 
-    const HEIGHT: u32;
-
-    const SLOPE: u32;
-
-    /// One round of refining a seed, and what a seed within one part in K is.
+    /// One round of refining.
     ghost round: { Value → Value → Result Value ℕ };
 
+    /// What it is for a number to be a seed for an operand within one part in K.
     ghost IsSeed: { ℕ → ℕ → ℕ → Type 0 };
+
+    /// The line at an operand of zero, in parts of 256.
+    const HEIGHT: u32;
+
+    /// How much the line falls for each one of the operand, in parts of 256.
+    const SLOPE: u32;
 
     /// One round on a seed for an operand.
     fn round(operand: Register, seed: Register) -> Result<Register, Refusal>
         ensures { answered result ≡ round (value operand) (value seed) };
 
-    ghost height_fits: { (0 < HEIGHT) × (HEIGHT < 2 ^ 30) };
+    /// The line's numbers can be held in registers.
+    ghost fits: { (0 < HEIGHT) × (HEIGHT < 2 ^ 30) × (0 < SLOPE) × (SLOPE < 2 ^ 30) };
 
-    ghost slope_fits: { (0 < SLOPE) × (SLOPE < 2 ^ 30) };
-
+    /// A round brings any seed within one part in 29 to within one part in 400.
     ghost refines: { RoundRefines Self.Serves IsSeed round };
 
+    /// No step from the line on is refused.
     ghost granted: { (n : ℕ) → Self.Serves n → Positive (line_from HEIGHT SLOPE round n) };
 }
 
@@ -50,24 +55,24 @@ impl Lined for Reciprocal {
 
     ghost SLOPE = { 120 };
 
-    const HEIGHT: u32 = 361;
-
-    const SLOPE: u32 = 120;
-
     ghost round = { reciprocal_round };
 
     ghost IsSeed = { ReciprocalSeed };
 
-    ghost height_fits = { Prim.search rules };
-
-    ghost slope_fits = { Prim.search rules };
+    ghost fits = { Prim.search rules };
 
     ghost refines = { reciprocal_refines };
 
     ghost granted = { reciprocal_positive };
 
+    const HEIGHT: u32 = 361;
+
+    const SLOPE: u32 = 120;
+
+    /// One round on a reciprocal seed: `e = 1 - b·y`, then `y + e·y`.
     fn round(b: Register, y: Register) -> Result<Register, Refusal> {
-        reciprocal_round(b, y)
+        let e = step(register(1, 0), Choice::Minus, b, y)?;
+        step(y, Choice::Plus, e, y)
     }
 }
 
@@ -77,24 +82,26 @@ impl Lined for Root {
 
     ghost SLOPE = { 39 };
 
-    const HEIGHT: u32 = 273;
-
-    const SLOPE: u32 = 39;
-
     ghost round = { root_round };
 
     ghost IsSeed = { RootSeed };
 
-    ghost height_fits = { Prim.search rules };
-
-    ghost slope_fits = { Prim.search rules };
+    ghost fits = { Prim.search rules };
 
     ghost refines = { root_refines };
 
     ghost granted = { root_positive };
 
+    const HEIGHT: u32 = 273;
+
+    const SLOPE: u32 = 39;
+
+    /// One round on a root seed: `s = t·z`, `d = 1/2 - s·(z/2)`, then `z + d·z`.
     fn round(t: Register, z: Register) -> Result<Register, Refusal> {
-        root_round(t, z)
+        let s = step(Register::Zero, Choice::Plus, t, z)?;
+        let h = half(z)?;
+        let d = step(register(1, 1), Choice::Minus, s, h)?;
+        step(z, Choice::Plus, d, z)
     }
 }
 
@@ -103,7 +110,8 @@ fn line<Q: Lined>(operand: Operand<Q>) -> Result<Register, Refusal>
     ensures { answered result ≡ line_from Q.HEIGHT Q.SLOPE Q.round operand.bits }
 {
     let x = register(operand.bits(), 23);
-    let start = step(register(Q::HEIGHT, 8), Choice::Minus, register(Q::SLOPE, 8), x)?;
+    let (height, slope) = (register(Q::HEIGHT, 8), register(Q::SLOPE, 8));
+    let start = step(height, Choice::Minus, slope, x)?;
     let once = Q::round(x, start)?;
     Q::round(x, once)
 }
@@ -129,10 +137,12 @@ impl Source for LineSource {
 
     ghost roots_close = { λ s t h. roots_are_close t h };
 
+    #[tactic(auto, unfolding(crate::specs::Rounds::line_reciprocal))]
     fn reciprocal(&self, b: Significand) -> Number {
         seed(b)
     }
 
+    #[tactic(auto, unfolding(crate::specs::Rounds::line_root))]
     fn root(&self, t: Radicand) -> Number {
         seed(t)
     }

@@ -2,17 +2,18 @@
 
 ghost use Rattle.std.specs.Prelude.{◌≡◌, ◌↔◌, ◌≤◌, ◌<◌, ◌^◌, ℕ, IsTrue, MatchOption, ⊤};
 ghost use Rattle.sources.specs.Seeds.{IsRadicand, IsSignificand};
-ghost use Rattle.sources.specs.Served.{radicand_few, radicand_once, significand_few, significand_once};
+ghost use Rattle.sources.specs.Served.{radicand_few, radicand_one_proof, significand_few, significand_one_proof};
 
 use std::alloc::AllocError;
 use std::marker::PhantomData;
 
 /// A question that a source of seeds answers.
 pub trait Question {
-    /// The numbers that it is asked for, and that there is one proof at most of a number being so.
+    /// The numbers that it is asked for.
     ghost Serves: { ℕ → Type 0 };
 
-    ghost once: { (n : ℕ) → IsProp (Serves n) };
+    /// That a number is one of them has one proof at most, so that a type can keep it.
+    ghost one_proof: { (n : ℕ) → IsProp (Serves n) };
 
     /// Whether it is asked for the number with these bits.
     fn serves(bits: u32) -> bool
@@ -29,12 +30,12 @@ pub struct Reciprocal;
 impl Question for Reciprocal {
     ghost Serves = { IsSignificand };
 
-    ghost once = { significand_once };
+    ghost one_proof = { significand_one_proof };
 
     ghost few = { significand_few };
 
     fn serves(bits: u32) -> bool {
-        bits >= 0x80_0000 && bits < 0x100_0000
+        (0x80_0000..0x100_0000).contains(&bits)
     }
 }
 
@@ -45,12 +46,12 @@ pub struct Root;
 impl Question for Root {
     ghost Serves = { IsRadicand };
 
-    ghost once = { radicand_once };
+    ghost one_proof = { radicand_one_proof };
 
     ghost few = { radicand_few };
 
     fn serves(bits: u32) -> bool {
-        bits >= 0x80_0000 && bits < 0x200_0000 && (bits < 0x100_0000 || bits % 2 == 0)
+        (0x80_0000..0x200_0000).contains(&bits) && (bits < 0x100_0000 || bits % 2 == 0)
     }
 }
 
@@ -59,9 +60,10 @@ impl Question for Root {
 pub struct Operand<Q: Question> {
     bits: u32,
     question: PhantomData<Q>,
-    ghost range: { Q.Serves bits } by { Q.once bits },
+    ghost range: { Q.Serves bits } by { Q.one_proof bits },
 }
 
+// Copied by an impl, and by no derive: none copies a generic struct that keeps a fact.
 impl<Q: Question> Copy for Operand<Q> {}
 
 impl<Q: Question> Clone for Operand<Q> {
@@ -88,7 +90,10 @@ impl<Q: Question> Operand<Q> {
         if !Q::serves(bits) {
             return None;
         }
-        Some(Operand { bits, question: PhantomData })
+        Some(Operand {
+            bits,
+            question: PhantomData,
+        })
     }
 
     /// Its bits.

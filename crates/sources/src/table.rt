@@ -18,24 +18,29 @@ use registers::Number;
 
 /// A question whose seeds stand in a table of 256 entries.
 trait Tabulated: Question {
-    /// The entry at each place, the place of the entry that serves an operand, and what it is for an entry to be nearest.
+    /// The entry at each place.
     ghost entry: { ℕ → ℕ };
 
+    /// The place of the entry that serves an operand.
     ghost index: { ℕ → ℕ };
 
+    /// What it is for the entry at a place to be nearest.
     ghost IsNearest: { ℕ → ℕ → Type 0 };
 
     /// The table.
     fn table() -> &'static [u16; 256]
         ensures { result.now ≡ map entry (range_with_len 0 256) };
 
-    /// The place of the entry that serves an operand.
+    /// The place of the entry that serves the operand with these bits.
+    // The bits, and no operand: a trait's method over an operand of its own question gets no proof.
     fn index(bits: u32) -> usize
         requires { Self.Serves bits }
         ensures { (result ≡ index bits) × (result < 256) };
 
+    /// Entries have 11 bits.
     ghost long: { (i : ℕ) → i < 256 → (2 ^ 10 ≤ entry i) × (entry i < 2 ^ 11) };
 
+    /// Entries are nearest.
     ghost nearest: { (i : ℕ) → i < 256 → IsNearest i (entry i) };
 }
 
@@ -50,6 +55,7 @@ impl Tabulated for Reciprocal {
 
     ghost nearest = { reciprocal_nearest };
 
+    #[tactic(auto, unfolding(crate::specs::Entries::reciprocal_entry))]
     fn table() -> &'static [u16; 256] {
         &RECIPROCALS
     }
@@ -71,6 +77,7 @@ impl Tabulated for Root {
 
     ghost nearest = { root_nearest };
 
+    #[tactic(auto, unfolding(crate::specs::Entries::root_entry))]
     fn table() -> &'static [u16; 256] {
         &ROOTS
     }
