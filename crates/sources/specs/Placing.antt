@@ -28,6 +28,12 @@ built_as r n negative e S is h = subst (λ (o : Option Number). MatchOption o (B
 pub not_built : (r : Option Number) (negative : Bool) (e : ℤ) (S : ℕ) → r ≡ None → MatchOption r (Buildable e S → ⊥) (λ n. Built negative e S n) → Buildable e S → ⊥
 not_built r negative e S is h = subst (λ (o : Option Number). MatchOption o (Buildable e S → ⊥) (λ n. Built negative e S n)) is h
 
+-- a with its leading zeros, of 32 bits, but for two moved away
+pub record Moved (a : ℕ) : Type 0 where
+  pub least : 2 ≤ count_leading_zeros 32 a
+  pub most : count_leading_zeros 32 a ≤ 31
+  pub digits : a * 2 ^ (count_leading_zeros 32 a - 2) < 2 ^ 30
+
 -- a of at most 30 bits and its leading zeros, of 32 bits
 module _ (a : ℕ) (some : 0 < a) (few : a < 2 ^ 30) where
   top : (j : ℕ) × (count_leading_zeros 32 a + suc j ≡ 32) × (2 ^ j ≤ a) × (a < 2 ^ suc j)
@@ -53,6 +59,10 @@ module _ (a : ℕ) (some : 0 < a) (few : a < 2 ^ 30) where
     where
       sum : suc top.0 + (count_leading_zeros 32 a - 2) ≡ 30
       sum = omega (arith, top.1, low)
+
+  -- how far it moves, and where to
+  pub moved : Moved a
+  moved = record { least = zeros_least; most = zeros_most; digits = digits_most }
 
   module _ (k : ℕ) (near : k ≤ 23) (e : ℤ) (S : ℕ)
       (exponent : e ≡ pos 29 -ℤ pos (count_leading_zeros 32 a - 2 + k))

@@ -33,9 +33,9 @@ trait Tabulated: Question {
 
     /// The place of the entry that serves the operand with these bits.
     // The bits, and no operand: a trait's method over an operand of its own question gets no proof.
-    fn index(bits: u32) -> usize
+    fn index(bits: u32) -> u8
         requires { Self.Serves bits }
-        ensures { (result ≡ index bits) × (result < 256) };
+        ensures { result ≡ index bits };
 
     /// Entries have 11 bits.
     ghost long: { (i : ℕ) → i < 256 → (2 ^ 10 ≤ entry i) × (entry i < 2 ^ 11) };
@@ -61,8 +61,8 @@ impl Tabulated for Reciprocal {
     }
 
     /// The top eight fraction bits of a significand.
-    fn index(bits: u32) -> usize {
-        ((bits - 0x80_0000) >> 15) as usize
+    fn index(bits: u32) -> u8 {
+        ((bits - 0x80_0000) >> 15) as u8
     }
 }
 
@@ -83,23 +83,22 @@ impl Tabulated for Root {
     }
 
     /// The seven bits of a radicand after its highest one, and 128 more from 2 up.
-    fn index(bits: u32) -> usize {
+    fn index(bits: u32) -> u8 {
         if bits < 0x100_0000 {
-            ((bits - 0x80_0000) >> 16) as usize
+            ((bits - 0x80_0000) >> 16) as u8
         } else {
-            128 + ((bits - 0x100_0000) >> 17) as usize
+            128 + ((bits - 0x100_0000) >> 17) as u8
         }
     }
 }
 
 /// An entry of a question's table.
-fn entry<Q: Tabulated>(i: usize) -> u16
-    requires { i < 256 }
+fn entry<Q: Tabulated>(i: u8) -> u16
     ensures value { result ≡ Q.entry i }
     ensures bound { (2 ^ 10 ≤ result) × (result < 2 ^ 11) }
     ensures nearest { Q.IsNearest i (Q.entry i) }
 {
-    Q::table()[i]
+    Q::table()[usize::from(i)]
 }
 
 /// The seed for an operand: the entry that serves it, times `2^-11`.
