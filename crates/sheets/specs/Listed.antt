@@ -3,8 +3,8 @@ use Rattle.std.specs.Prelude.{ℕ, List, [], ◌∷◌}
 use Rattle.registers.specs.declared.register.Choice.TheVariants.{Plus}
 use Rattle.registers.specs.Fused.{fused_size}
 use Rattle.registers.specs.Values.{Value, value}
-use Rattle.sheets.specs.declared.quotient.QuotientLines.{QuotientLines}
-use Rattle.sheets.specs.declared.root.RootLines.{RootLines}
+use Rattle.sheets.specs.declared.quotient.lines.QuotientLines.{QuotientLines}
+use Rattle.sheets.specs.declared.root.lines.RootLines.{RootLines}
 
 abbrev pub quotient_values : QuotientLines → List Value
 quotient_values l = value l.y0 ∷ (value l.e0 ∷ (value l.e1 ∷ (value l.y1 ∷ (value l.q1 ∷ (value l.r1 ∷ [])))))

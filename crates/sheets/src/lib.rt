@@ -11,6 +11,7 @@ mod seed;
 pub mod sheet;
 mod steps;
 mod stored;
+mod worked;
 
 pub use closing::Closing;
 pub use quotient::fill_quotient;

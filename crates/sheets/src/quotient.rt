@@ -1,6 +1,8 @@
 //! The sheet of a quotient.
 
-ghost use Rattle.std.specs.Prelude.{◌≡◌, ◌<◌};
+mod lines;
+
+ghost use Rattle.std.specs.Prelude.{◌≡◌};
 ghost use Rattle.registers.specs.Binary32.{beside_whole};
 ghost use Rattle.sheets.specs.Beside.{SameRounding, SameSide, beside_quotient};
 ghost use Rattle.sheets.specs.Closed.{closing_size};
@@ -11,28 +13,19 @@ ghost use Rattle.sheets.specs.Written.{values};
 
 use crate::closing::Closing;
 use crate::operand::decode::{operand, register_of};
+use crate::quotient::lines::QuotientLines;
 use crate::seed::placed;
 use crate::sheet::Sheet;
 use crate::steps::{improved, product, residual, residual_of_one};
+use crate::worked::{Worked, write_out};
 use registers::{Finite, Register};
 use sources::Source;
-
-/// The lines of a quotient: a reciprocal seed of the divisor and its error, a better reciprocal, a quotient and its residual.
-#[derive(Clone, Copy)]
-struct QuotientLines {
-    y0: Register,
-    e0: Register,
-    e1: Register,
-    y1: Register,
-    q1: Register,
-    r1: Register,
-}
 
 /// The lines of the magnitude of `a` by that of `b`.
 fn quotient_lines<S: Source>(source: &S, a: Finite, b: Finite) -> QuotientLines
     ensures sheet { QuotientSheet (S.Source.reciprocals source.now) (units_of a) (units_of b) (quotient_values result) (quotient_closing result) }
-    ensures some { 0 < quotient_closing result }
     ensures same_side { SameSide (beside_whole (quotient_closing result)) (beside_quotient (units_of a) (units_of b)) }
+    ensures same_rounding { SameRounding (beside_whole (quotient_closing result)) (beside_quotient (units_of a) (units_of b)) }
 {
     let dividend = operand(a);
     let divisor = operand(b);
@@ -55,36 +48,19 @@ fn quotient_lines<S: Source>(source: &S, a: Finite, b: Finite) -> QuotientLines
     }
 }
 
-/// Writes the lines of a quotient on an emptied sheet.
-fn write_quotient(sheet: &mut Sheet, lines: QuotientLines)
-    ensures { values sheet.new ≡ quotient_values lines }
-{
-    sheet.clear();
-    sheet.write(lines.y0);
-    sheet.write(lines.e0);
-    sheet.write(lines.e1);
-    sheet.write(lines.y1);
-    sheet.write(lines.q1);
-    sheet.write(lines.r1);
-}
+impl Worked for QuotientLines {
+    ghost listed = { quotient_values };
 
-/// The closing value over the lines of a quotient: `q1 + r1·y1`.
-fn closing_of(lines: QuotientLines) -> Closing
-    requires { 0 < quotient_closing lines }
-    ensures { closing_size result ≡ quotient_closing lines }
-{
-    Closing::new(lines.q1, lines.r1, lines.y1)
-}
+    ghost closed = { quotient_closing };
 
-/// The work of `fill_quotient`.
-fn work_quotient<S: Source>(source: &S, a: Finite, b: Finite, sheet: &mut Sheet) -> Closing
-    ensures sheet { QuotientSheet (S.Source.reciprocals source.now) (units_of a) (units_of b) (values sheet.new) (closing_size result) }
-    ensures same_side { SameSide (beside_whole (closing_size result)) (beside_quotient (units_of a) (units_of b)) }
-    ensures same_rounding { SameRounding (beside_whole (closing_size result)) (beside_quotient (units_of a) (units_of b)) }
-{
-    let lines = quotient_lines(source, a, b);
-    write_quotient(sheet, lines);
-    closing_of(lines)
+    fn write(&self, sheet: &mut Sheet) {
+        sheet.fill(&[self.y0, self.e0, self.e1, self.y1, self.q1, self.r1]);
+    }
+
+    /// `q1 + r1·y1`.
+    fn closing(&self) -> Closing {
+        Closing::new(self.q1, self.r1, self.y1)
+    }
 }
 
 /// Fills a sheet with the lines of the magnitude of `a` by that of `b`, over any source, and gives the closing value.
@@ -94,5 +70,5 @@ pub fn fill_quotient<S: Source>(source: &S, a: Finite, b: Finite, sheet: &mut Sh
     ensures same_side { SameSide (beside_whole (closing_size result)) (beside_quotient (units_of a) (units_of b)) }
     ensures same_rounding { SameRounding (beside_whole (closing_size result)) (beside_quotient (units_of a) (units_of b)) }
 {
-    work_quotient(source, a, b, sheet)
+    write_out(&quotient_lines(source, a, b), sheet)
 }

@@ -1,6 +1,8 @@
 //! The sheet of a root.
 
-ghost use Rattle.std.specs.Prelude.{◌≡◌, ◌<◌};
+mod lines;
+
+ghost use Rattle.std.specs.Prelude.{◌≡◌};
 ghost use Rattle.registers.specs.Binary32.{beside_whole};
 ghost use Rattle.sheets.specs.Beside.{SameRounding, SameSide, beside_root};
 ghost use Rattle.sheets.specs.Closed.{closing_size};
@@ -11,33 +13,19 @@ ghost use Rattle.sheets.specs.Written.{values};
 
 use crate::closing::Closing;
 use crate::operand::decode::{operand, radicand, register_of};
+use crate::root::lines::RootLines;
 use crate::seed::{halved, placed};
 use crate::sheet::Sheet;
 use crate::steps::{improved, product, refined, residual, residual_of_half};
+use crate::worked::{Worked, write_out};
 use registers::{Finite, Register};
 use sources::Source;
-
-/// The lines of a root: roots `s` and half reciprocal roots `h`, their errors `d`, and the residuals `e`.
-#[derive(Clone, Copy)]
-struct RootLines {
-    y0: Register,
-    s0: Register,
-    h0: Register,
-    d0: Register,
-    h1: Register,
-    s1: Register,
-    d1: Register,
-    e1: Register,
-    s2: Register,
-    h2: Register,
-    e2: Register,
-}
 
 /// The lines of the root of the magnitude of `a`.
 fn root_lines<S: Source>(source: &S, a: Finite) -> RootLines
     ensures sheet { RootSheet (S.Source.roots source.now) (units_of a) (root_values result) (root_closing result) }
-    ensures some { 0 < root_closing result }
     ensures same_side { SameSide (beside_whole (root_closing result)) (beside_root (units_of a)) }
+    ensures same_rounding { SameRounding (beside_whole (root_closing result)) (beside_root (units_of a)) }
 {
     let form = operand(a);
     let x = register_of(form);
@@ -69,41 +57,22 @@ fn root_lines<S: Source>(source: &S, a: Finite) -> RootLines
     }
 }
 
-/// Writes the lines of a root on an emptied sheet.
-fn write_root(sheet: &mut Sheet, lines: RootLines)
-    ensures { values sheet.new ≡ root_values lines }
-{
-    sheet.clear();
-    sheet.write(lines.y0);
-    sheet.write(lines.s0);
-    sheet.write(lines.h0);
-    sheet.write(lines.d0);
-    sheet.write(lines.h1);
-    sheet.write(lines.s1);
-    sheet.write(lines.d1);
-    sheet.write(lines.e1);
-    sheet.write(lines.s2);
-    sheet.write(lines.h2);
-    sheet.write(lines.e2);
-}
+impl Worked for RootLines {
+    ghost listed = { root_values };
 
-/// The closing value over the lines of a root: `s2 + e2·h2`.
-fn closing_of(lines: RootLines) -> Closing
-    requires { 0 < root_closing lines }
-    ensures { closing_size result ≡ root_closing lines }
-{
-    Closing::new(lines.s2, lines.e2, lines.h2)
-}
+    ghost closed = { root_closing };
 
-/// The work of `fill_root`.
-fn work_root<S: Source>(source: &S, a: Finite, sheet: &mut Sheet) -> Closing
-    ensures sheet { RootSheet (S.Source.roots source.now) (units_of a) (values sheet.new) (closing_size result) }
-    ensures same_side { SameSide (beside_whole (closing_size result)) (beside_root (units_of a)) }
-    ensures same_rounding { SameRounding (beside_whole (closing_size result)) (beside_root (units_of a)) }
-{
-    let lines = root_lines(source, a);
-    write_root(sheet, lines);
-    closing_of(lines)
+    fn write(&self, sheet: &mut Sheet) {
+        sheet.fill(&[
+            self.y0, self.s0, self.h0, self.d0, self.h1, self.s1, self.d1, self.e1, self.s2,
+            self.h2, self.e2,
+        ]);
+    }
+
+    /// `s2 + e2·h2`.
+    fn closing(&self) -> Closing {
+        Closing::new(self.s2, self.e2, self.h2)
+    }
 }
 
 /// Fills a sheet with the lines of the root of the magnitude of `a`, over any source, and gives the closing value.
@@ -113,5 +82,5 @@ pub fn fill_root<S: Source>(source: &S, a: Finite, sheet: &mut Sheet) -> Closing
     ensures same_side { SameSide (beside_whole (closing_size result)) (beside_root (units_of a)) }
     ensures same_rounding { SameRounding (beside_whole (closing_size result)) (beside_root (units_of a)) }
 {
-    work_root(source, a, sheet)
+    write_out(&root_lines(source, a), sheet)
 }

@@ -1,6 +1,6 @@
 //! Writing a sheet and asking it.
 
-ghost use Rattle.std.specs.Prelude.{◌≡◌, ◌<◌, [], ◌∷◌, ◌++◌, length};
+ghost use Rattle.std.specs.Prelude.{◌≡◌, ◌<◌, ◌≤◌, [], ◌∷◌, ◌++◌, length};
 ghost use Rattle.sheets.specs.Written.{last_of, line_at, written};
 
 use crate::refusal::Refusal;
@@ -34,11 +34,22 @@ impl Sheet {
         self.used += 1;
     }
 
-    /// The lines that are written.
-    fn lines(&self) -> &[Register]
+    /// Writes these lines, and no other.
+    pub(crate) fn fill(&mut self, lines: &[Register])
+        requires { length lines.now ≤ 11 }
+        ensures { written self.new ≡ lines.now }
+    {
+        self.clear();
+        for line in lines {
+            self.write(*line);
+        }
+    }
+
+    /// The lines that are written, the first one first.
+    pub fn lines(&self) -> &[Register]
         ensures { result.now ≡ written self.now }
     {
-        &self.lines[0..self.used]
+        &self.lines[..self.used]
     }
 
     /// How many lines are written.
@@ -52,20 +63,14 @@ impl Sheet {
     pub fn line(&self, n: usize) -> Result<Register, Refusal>
         ensures { result ≡ line_at (written self.now) n }
     {
-        if n == 0 || n > self.count() {
-            return Err(Refusal::NoSuchLine);
-        }
-        Ok(self.lines()[n - 1])
+        let index = n.checked_sub(1).ok_or(Refusal::NoSuchLine)?;
+        self.lines().get(index).copied().ok_or(Refusal::NoSuchLine)
     }
 
     /// The last line, or nothing where none is written.
     pub fn last(&self) -> Option<Register>
         ensures { result ≡ last_of (written self.now) }
     {
-        let count = self.count();
-        if count == 0 {
-            return None;
-        }
-        Some(self.lines()[count - 1])
+        self.lines().last().copied()
     }
 }

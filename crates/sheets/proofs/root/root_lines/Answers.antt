@@ -3,6 +3,7 @@ use Rattle.registers.specs.Values.{value, number_value}
 use Rattle.sheets.specs.Operands.{units_of}
 use Rattle.sheets.proofs.Placing.{root_moderate}
 use Rattle.sheets.proofs.RootWorked.{radicand_range, seeded, seed_moderate, begun, need_s0, need_d0, need_h1, need_s1, need_d1, need_e1, need_s2, need_h2, need_e2, worked, some, same_side}
+use Rattle.sheets.proofs.Scales.{rounds_alike}
 use Rattle.sheets.proofs.root.root_lines.Goals as goal
 
 pub placed-y-requires : goal.placed-y-requires
@@ -113,6 +114,16 @@ residual-e2-requires g c =
     let s = begun seeds (units_of c.args.a) p (value c.register_of-x.result) (number_value c.placed-y.result) c.halved.result r c.register_of-x.ensures c.halved.ensures in
     need_e2 seeds (units_of c.args.a) (value c.register_of-x.result) (number_value c.placed-y.result) (number_value c.halved.result) s (value c.product-s0.result) c.product-s0.ensures (value c.residual_of_half-d0.result) c.residual_of_half-d0.ensures (value c.improved-h1.result) c.improved-h1.ensures (value c.improved-s1.result) c.improved-s1.ensures (value c.residual_of_half-d1.result) c.residual_of_half-d1.ensures (value c.residual-e1.result) c.residual-e1.ensures (value c.refined-s2.result) c.refined-s2.ensures (value c.improved-h2.result) c.improved-h2.ensures
 
+pub invariant_of-result : goal.invariant_of-result
+invariant_of-result g c =
+    let p = c.operand-form.result in
+    let t = c.radicand.result in
+    let seeds = g.S.Source.roots c.args.source.now in
+    let close = g.met.S.Source.roots_close c.args.source.now t.bits (radicand_range t) in
+    let r = seeded seeds (units_of c.args.a) p t (number_value c.root-seed.result) (number_value c.placed-y.result) c.operand-form.ensures c.radicand.ensures c.root-seed.ensures close c.placed-y.ensures.plus c.placed-y.ensures.exact in
+    let s = begun seeds (units_of c.args.a) p (value c.register_of-x.result) (number_value c.placed-y.result) c.halved.result r c.register_of-x.ensures c.halved.ensures in
+    record { some = some seeds (units_of c.args.a) (value c.register_of-x.result) (number_value c.placed-y.result) (number_value c.halved.result) s (value c.product-s0.result) c.product-s0.ensures (value c.residual_of_half-d0.result) c.residual_of_half-d0.ensures (value c.improved-h1.result) c.improved-h1.ensures (value c.improved-s1.result) c.improved-s1.ensures (value c.residual_of_half-d1.result) c.residual_of_half-d1.ensures (value c.residual-e1.result) c.residual-e1.ensures (value c.refined-s2.result) c.refined-s2.ensures (value c.improved-h2.result) c.improved-h2.ensures (value c.residual-e2.result) c.residual-e2.ensures }
+
 pub returns : goal.returns
 returns g c =
     let p = c.operand-form.result in
@@ -121,8 +132,9 @@ returns g c =
     let close = g.met.S.Source.roots_close c.args.source.now t.bits (radicand_range t) in
     let r = seeded seeds (units_of c.args.a) p t (number_value c.root-seed.result) (number_value c.placed-y.result) c.operand-form.ensures c.radicand.ensures c.root-seed.ensures close c.placed-y.ensures.plus c.placed-y.ensures.exact in
     let s = begun seeds (units_of c.args.a) p (value c.register_of-x.result) (number_value c.placed-y.result) c.halved.result r c.register_of-x.ensures c.halved.ensures in
+    let side = same_side seeds (units_of c.args.a) (value c.register_of-x.result) (number_value c.placed-y.result) (number_value c.halved.result) s (value c.product-s0.result) c.product-s0.ensures (value c.residual_of_half-d0.result) c.residual_of_half-d0.ensures (value c.improved-h1.result) c.improved-h1.ensures (value c.improved-s1.result) c.improved-s1.ensures (value c.residual_of_half-d1.result) c.residual_of_half-d1.ensures (value c.residual-e1.result) c.residual-e1.ensures (value c.refined-s2.result) c.refined-s2.ensures (value c.improved-h2.result) c.improved-h2.ensures (value c.residual-e2.result) c.residual-e2.ensures in
     record {
       sheet = worked seeds (units_of c.args.a) (value c.register_of-x.result) (number_value c.placed-y.result) (number_value c.halved.result) s (value c.product-s0.result) c.product-s0.ensures (value c.residual_of_half-d0.result) c.residual_of_half-d0.ensures (value c.improved-h1.result) c.improved-h1.ensures (value c.improved-s1.result) c.improved-s1.ensures (value c.residual_of_half-d1.result) c.residual_of_half-d1.ensures (value c.residual-e1.result) c.residual-e1.ensures (value c.refined-s2.result) c.refined-s2.ensures (value c.improved-h2.result) c.improved-h2.ensures (value c.residual-e2.result) c.residual-e2.ensures;
-      some = some seeds (units_of c.args.a) (value c.register_of-x.result) (number_value c.placed-y.result) (number_value c.halved.result) s (value c.product-s0.result) c.product-s0.ensures (value c.residual_of_half-d0.result) c.residual_of_half-d0.ensures (value c.improved-h1.result) c.improved-h1.ensures (value c.improved-s1.result) c.improved-s1.ensures (value c.residual_of_half-d1.result) c.residual_of_half-d1.ensures (value c.residual-e1.result) c.residual-e1.ensures (value c.refined-s2.result) c.refined-s2.ensures (value c.improved-h2.result) c.improved-h2.ensures (value c.residual-e2.result) c.residual-e2.ensures;
-      same_side = same_side seeds (units_of c.args.a) (value c.register_of-x.result) (number_value c.placed-y.result) (number_value c.halved.result) s (value c.product-s0.result) c.product-s0.ensures (value c.residual_of_half-d0.result) c.residual_of_half-d0.ensures (value c.improved-h1.result) c.improved-h1.ensures (value c.improved-s1.result) c.improved-s1.ensures (value c.residual_of_half-d1.result) c.residual_of_half-d1.ensures (value c.residual-e1.result) c.residual-e1.ensures (value c.refined-s2.result) c.refined-s2.ensures (value c.improved-h2.result) c.improved-h2.ensures (value c.residual-e2.result) c.residual-e2.ensures;
+      same_side = side;
+      same_rounding = rounds_alike side;
     }
