@@ -1,9 +1,10 @@
 -- A value c corrected by its residual: c + x·h, where x is what r leaves over p, rounded, with its sign.
-use Rattle.std.proofs.Common.{◌≡◌, ℕ, zero, ◌+◌, ◌*◌, ◌^◌, ◌<◌, ◌≤◌, Bool, true, false, ◌⊎◌, sym, refl, ap, inl, inr, mul-pos, le_of_mul-le-mul_right, arith, pow_pos, pow-add}
+use Rattle.std.proofs.Common.{◌≡◌, ℕ, zero, ◌+◌, ◌*◌, ◌^◌, ◌<◌, ◌≤◌, Bool, true, false, ◌⊎◌, sym, refl, ap, subst, inl, inr, mul-pos, le_of_mul-le-mul_right, arith, pow_pos, pow-add}
 use native.Mathlib.Nat.{le_dest}
 use Rattle.registers.specs.Laws.{Bits}
 use Rattle.registers.specs.Lines.{Sum}
-use Rattle.registers.proofs.Signs.{true≢false}
+use Rattle.registers.proofs.Signs.{Line, true≢false}
+use Rattle.registers.proofs.Spacing.{exact}
 
 -- r - p is n, up or down, and N is c + x·h with x on the same side
 abbrev pub Correction : ℕ → ℕ → ℕ → ℕ → ℕ → ℕ → ℕ → ℕ → Type 0
@@ -41,3 +42,13 @@ few_bits i j x y n e near = by (le_dest (le_of_mul-le-mul_right {m = y} {n = x} 
   where
     by : (t : ℕ) × (y + t ≡ x) → Bits 30 n
     by t = record { part = t.0; exp = i + j; fits = omega (arith, t.1, near); is = omega (arith, e, ap (λ z. z * (2 ^ i * 2 ^ j)) t.1, ap (λ z. t.0 * z) (pow-add 2 i j)) }
+
+-- a residual is exact where what is left, up or down, has at most 30 bits
+pub rest_exact : {W A p : ℕ} {s : Bool} {x : ℕ} → Line 30 W false A true p s x
+    → ((n : ℕ) → n + p ≡ A * W → Bits 30 n) → ((n : ℕ) → n + A * W ≡ p → Bits 30 n)
+    → Sum false (A * W) true p s (x * W)
+rest_exact {W} {A} {p} {s} {x} line left over = subst (Sum false (A * W) true p s) (sym (exact 30 line.line (bits s line.n line.sum))) line.sum
+  where
+    bits : (t : Bool) (n : ℕ) → Sum false (A * W) true p t n → Bits 30 n
+    bits false n e = left n (omega (arith, e))
+    bits true n e = over n (omega (arith, e))

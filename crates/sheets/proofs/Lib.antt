@@ -16,7 +16,6 @@ pub mod RootSide
 pub mod RootRest
 pub mod RootPair
 pub mod RootEnd
-pub mod Pages
 pub mod Sizes
 pub mod Stepped
 pub mod Scales

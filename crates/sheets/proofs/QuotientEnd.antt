@@ -1,14 +1,14 @@
 -- The end of a quotient's lines: the residual r1 is exact, and the closing value q1 + r1·y1 is above zero and lies to every number of at most 25 bits as a / b does.
 -- One is W; a is A units and b is B.
-use Rattle.std.proofs.Common.{◌≡◌, ℕ, zero, ◌+◌, ◌*◌, ◌^◌, ◌<◌, ◌≤◌, Bool, true, false, sym, subst, inl, inr, mul-le-mul_right, mul-le-mul_left, mul-pos, le_of_mul-le-mul_right, arith, pow_pos}
+use Rattle.std.proofs.Common.{◌≡◌, ℕ, zero, ◌+◌, ◌*◌, ◌^◌, ◌<◌, ◌≤◌, Bool, true, false, subst, inl, inr, mul-le-mul_right, mul-le-mul_left, mul-pos, le_of_mul-le-mul_right, arith}
 use Rattle.registers.specs.Laws.{Bits}
 use Rattle.registers.specs.Lines.{Sum}
 use Rattle.registers.proofs.Near.{Near}
-use Rattle.registers.proofs.Spacing.{Rounded, exact, order}
+use Rattle.registers.proofs.Spacing.{Rounded, order}
 use Rattle.registers.proofs.Signs.{Line}
-use Rattle.sheets.proofs.Shape.{Shape}
+use Rattle.sheets.proofs.Shape.{Shape, one_some, some}
 use Rattle.sheets.proofs.Side.{Side}
-use Rattle.sheets.proofs.Correction.{left_over, sum_plus, correction}
+use Rattle.sheets.proofs.Correction.{left_over, sum_plus, correction, rest_exact}
 use Rattle.sheets.proofs.QuotientError.{hi_bq}
 use Rattle.sheets.proofs.QuotientSide.{quotient_side}
 use Rattle.sheets.proofs.QuotientRest.{left_bits, over_bits}
@@ -29,18 +29,16 @@ module _ {W A B : ℕ} (Y Q : ℕ)
     (rq : Rounded 24 (A * Y) (Q * W))
     {s : Bool} {R : ℕ} (line : Line 30 W false A true (B * Q) s R)
   where
-    rest_bits : (t : Bool) (n : ℕ) → Sum false (A * W) true (B * Q) t n → Bits 30 n
-    rest_bits false n e = left_bits f.dividend.w W A B Y Q f.dividend.significand f.dividend.exponent f.significand f.exponent f.dividend.whole f.dividend.is f.dividend.least f.dividend.most f.is f.least f.most f.room inv rq n (omega (arith, e))
-    rest_bits true n e = over_bits f.dividend.w W A B Y Q f.dividend.significand f.dividend.exponent f.significand f.exponent f.dividend.whole f.dividend.is f.dividend.least f.dividend.most f.is f.least f.most f.room inv rq n (omega (arith, e))
-
     pub r1_exact : Sum false (A * W) true (B * Q) s (R * W)
-    r1_exact = subst (Sum false (A * W) true (B * Q) s) (sym (exact 30 line.line (rest_bits s line.n line.sum))) line.sum
+    r1_exact = rest_exact line
+        (left_bits f.dividend.w W A B Y Q f.dividend.significand f.dividend.exponent f.significand f.exponent f.dividend.whole f.dividend.is f.dividend.least f.dividend.most f.is f.least f.most f.room inv rq)
+        (over_bits f.dividend.w W A B Y Q f.dividend.significand f.dividend.exponent f.significand f.exponent f.dividend.whole f.dividend.is f.dividend.least f.dividend.most f.is f.least f.most f.room inv rq)
 
     one : zero < W
-    one = omega (arith, f.dividend.whole, pow_pos f.dividend.w)
+    one = one_some f.dividend
 
     some_aw : zero < A * W
-    some_aw = omega (arith, f.dividend.is, mul-pos {m = f.dividend.significand} (omega (arith, f.dividend.least)) (pow_pos f.dividend.exponent))
+    some_aw = some f.dividend
 
     some_a : zero < A
     some_a = elim (order A zero) [ inl h ↦ absurd (omega (arith, some_aw, mul-le-mul_right W h)) | inr h ↦ h ]

@@ -1,5 +1,5 @@
 -- From what the code has at each call to the operands, the seed and the lines of a quotient.
-use Rattle.std.proofs.Common.{◌≡◌, ℕ, zero, ◌*◌, ◌^◌, ◌<◌, ◌≤◌, true, false, [], ◌∷◌, is_ok, Ok, refl, ap, ◌∙◌}
+use Rattle.std.proofs.Common.{◌≡◌, ℕ, zero, ◌-◌, ◌*◌, ◌^◌, ◌<◌, ◌≤◌, true, false, [], ◌∷◌, is_ok, Ok, refl, ap, ◌∙◌, arith}
 use Rattle.registers.specs.declared.register.Choice.TheVariants.{Plus, Minus}
 use Rattle.registers.specs.declared.register.Number.{Number}
 use Rattle.registers.specs.Binary32.{beside_whole}
@@ -16,22 +16,24 @@ use Rattle.sheets.proofs.Placing.{reciprocal_close}
 use Rattle.sheets.proofs.QuotientChain as Chain
 use Rattle.sheets.proofs.Starting.{in_range, decoded, held_of, number_bits}
 
--- the code before its first step: the operands as registers x and d, and the seed y0
-pub record Begun (seeds : ℕ → ℕ) (a b : ℕ) (x d y0 : Value) : Type 0 where
+-- the code before its first step: the operands and one as registers x, d and o, and the seed y0
+pub record Begun (seeds : ℕ → ℕ) (a b : ℕ) (x d o y0 : Value) : Type 0 where
   pub x_is : x ≡ held a
   pub d_is : d ≡ held b
+  pub o_is : o ≡ one
   pub seed : IsReciprocalSeedLine seeds b y0
   pub start : Chain.Start a b y0
 
-pub begun : (seeds : ℕ → ℕ) (a b : ℕ) (p q : Operand) (x d : Value) (s y : Number)
+pub begun : (seeds : ℕ → ℕ) (a b : ℕ) (p q : Operand) (x d o : Value) (s y : Number)
     → p.significand.bits * 2 ^ p.exponent ≡ a * 2 ^ 23 → q.significand.bits * 2 ^ q.exponent ≡ b * 2 ^ 23
-    → x ≡ held_at p.significand.bits p.exponent → d ≡ held_at q.significand.bits q.exponent
+    → x ≡ held_at p.significand.bits p.exponent → d ≡ held_at q.significand.bits q.exponent → o ≡ plain (2 ^ (bias - 0))
     → number_value s ≡ plain (seeds q.significand.bits) → ReciprocalSeed 400 q.significand.bits (seeds q.significand.bits)
     → (number_value y).negative ≡ false → (number_value y).units * 2 ^ q.exponent ≡ (number_value s).units * 2 ^ 149
-    → Begun seeds a b x d (number_value y)
-begun seeds a b p q x d s y ea eb ex ed es close plus placed = record {
+    → Begun seeds a b x d o (number_value y)
+begun seeds a b p q x d o s y ea eb ex ed eo es close plus placed = record {
   x_is = held_of a p x ea ex;
   d_is = held_of b q d eb ed;
+  o_is = eo ∙ ap (λ (n : ℕ). plain (2 ^ n)) full;
   seed = record { significand = q.significand.bits; exponent = q.exponent; in_range = in_range q.significand; is = eb; plus = plus; placed = here };
   start = record {
     dividend = decoded a p ea;
@@ -43,6 +45,9 @@ begun seeds a b p q x d s y ea eb ex ed es close plus placed = record {
   };
 }
   where
+    full : bias - 0 ≡ bias
+    full = omega arith
+
     here : (number_value y).units * 2 ^ q.exponent ≡ seeds q.significand.bits * 2 ^ 149
     here = placed ∙ ap (λ v. v.units * 2 ^ 149) es
 
@@ -50,13 +55,13 @@ begun seeds a b p q x d s y ea eb ex ed es close plus placed = record {
     near = reciprocal_close b (decoded b q eb) (seeds q.significand.bits) (number_value y).units close here
 
 -- each step is given, and its equation is that of the sheet
-module _ (seeds : ℕ → ℕ) (a b : ℕ) (x d y0 : Value) (g : Begun seeds a b x d y0) where
-  pub need_e0 : is_ok (fused 30 Minus one d y0) ≡ true
-  need_e0 = carry_given 30 Minus {r = one} {p = d} {q = y0} refl g.d_is refl (Chain.e0_given a b y0 g.start)
+module _ (seeds : ℕ → ℕ) (a b : ℕ) (x d o y0 : Value) (g : Begun seeds a b x d o y0) where
+  pub need_e0 : is_ok (fused 30 Minus o d y0) ≡ true
+  need_e0 = carry_given 30 Minus {r = o} {p = d} {q = y0} g.o_is g.d_is refl (Chain.e0_given a b y0 g.start)
 
-  module _ (e0 : Value) (h0 : fused 30 Minus one d y0 ≡ Ok e0) where
+  module _ (e0 : Value) (h0 : fused 30 Minus o d y0 ≡ Ok e0) where
     e0_is : fused 30 Minus one (held b) y0 ≡ Ok e0
-    e0_is = carry_is 30 Minus {r = one} {p = d} {q = y0} refl g.d_is refl h0
+    e0_is = carry_is 30 Minus {r = o} {p = d} {q = y0} g.o_is g.d_is refl h0
 
     pub need_e1 : is_ok (fused 30 Plus e0 e0 e0) ≡ true
     need_e1 = Chain.e1_given a b y0 g.start e0 e0_is

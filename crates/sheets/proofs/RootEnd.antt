@@ -1,14 +1,14 @@
 -- The end of a root's lines: the residual e2 is exact, and the closing value s2 + e2·h2 is above zero and lies to every number of at most 25 bits as the root of a does.
 -- One is W; a is A units; C is the sum that s2 is the rounding of.
-use Rattle.std.proofs.Common.{◌≡◌, ℕ, zero, ◌-◌, ◌*◌, ◌^◌, ◌<◌, ◌≤◌, Bool, true, false, sym, ap, subst, inl, inr, mul-le-mul_right, mul-le-mul, lt_of_mul-lt-mul_right, mul-le-mul_left, mul-pos, le_of_mul-le-mul_right, arith, pow_pos}
+use Rattle.std.proofs.Common.{◌≡◌, ℕ, zero, ◌-◌, ◌*◌, ◌^◌, ◌<◌, ◌≤◌, Bool, true, false, ap, subst, inl, inr, mul-le-mul_right, mul-le-mul, lt_of_mul-lt-mul_right, mul-le-mul_left, mul-pos, le_of_mul-le-mul_right, arith}
 use Rattle.registers.specs.Laws.{Bits}
 use Rattle.registers.specs.Lines.{Sum}
 use Rattle.registers.proofs.Near.{Near}
-use Rattle.registers.proofs.Spacing.{Rounded, order, exact}
+use Rattle.registers.proofs.Spacing.{Rounded, order}
 use Rattle.registers.proofs.Signs.{Line}
-use Rattle.sheets.proofs.Shape.{Shape}
+use Rattle.sheets.proofs.Shape.{Shape, one_some, some}
 use Rattle.sheets.proofs.Side.{Side}
-use Rattle.sheets.proofs.Correction.{left_over, sum_plus, correction}
+use Rattle.sheets.proofs.Correction.{left_over, sum_plus, correction, rest_exact}
 use Rattle.sheets.proofs.RootPair.{some_of}
 use Rattle.sheets.proofs.RootSide.{root_side}
 use Rattle.sheets.proofs.RootRest.{left_bits, over_bits}
@@ -24,10 +24,10 @@ module _ {W A : ℕ} (C S : ℕ)
     (r : Rounded 24 C (S * W))
   where
     one : zero < W
-    one = omega (arith, o.whole, pow_pos o.w)
+    one = one_some o
 
     some_aw : zero < A * W
-    some_aw = omega (arith, o.is, mul-pos {m = o.significand} (omega (arith, o.least)) (pow_pos o.exponent))
+    some_aw = some o
 
     lo_s : (2 ^ 24 - 1) * C ≤ 2 ^ 24 * (S * W)
     lo_s = omega (arith, r.near.1)
@@ -43,12 +43,10 @@ module _ {W A : ℕ} (C S : ℕ)
     some_s = mul-pos (some_of S (λ h. omega (arith, ss_least, some_aw, ap (λ x. x * S) h))) one
 
     module _ {s : Bool} {E : ℕ} (line : Line 30 W false A true (S * S) s E) where
-      rest_bits : (t : Bool) (n : ℕ) → Sum false (A * W) true (S * S) t n → Bits 30 n
-      rest_bits false n e = left_bits o.w W A C S o.whole square r o.significand o.exponent o.is o.least o.most room n (omega (arith, e))
-      rest_bits true n e = over_bits o.w W A C S o.whole square r o.significand o.exponent o.is o.least o.most room n (omega (arith, e))
-
       pub e2_exact : Sum false (A * W) true (S * S) s (E * W)
-      e2_exact = subst (Sum false (A * W) true (S * S) s) (sym (exact 30 line.line (rest_bits s line.n line.sum))) line.sum
+      e2_exact = rest_exact line
+          (left_bits o.w W A C S o.whole square r o.significand o.exponent o.is o.least o.most room)
+          (over_bits o.w W A C S o.whole square r o.significand o.exponent o.is o.least o.most room)
 
       module _ (H : ℕ) (near : Near (2 ^ 27) (W * W * W) (4 * (A * (H * H)))) where
         faint : s ≡ true → E * H < S * W

@@ -2,10 +2,11 @@
 use Rattle.std.proofs.Common.{◌≡◌, ℕ, suc, ◌*◌, ◌^◌, ◌≤◌, Bool, true, false, not, ◌⊎◌, is_ok, Ok, sym, refl, subst, inl, inr, arith, pow_pos}
 use mathlib.Core.Bool.{beq}
 use Rattle.registers.specs.declared.register.Choice.{Choice}
+use Rattle.registers.specs.declared.fused.FusedSum.{FusedSum}
 use Rattle.registers.specs.Fused.{fused, fused_sign, fused_size, product_sign}
 use Rattle.registers.specs.Lines.{Sum}
 use Rattle.registers.specs.Range.{bias}
-use Rattle.registers.specs.Values.{Value}
+use Rattle.registers.specs.Values.{Value, value}
 use Rattle.registers.proofs.Granted.{Sized, step_given, within}
 use Rattle.registers.proofs.Near.{Near}
 use Rattle.registers.proofs.Related.{fused_line, sum_of}
@@ -69,3 +70,10 @@ given_at k w choice r p q s t e f c few sized = step_given k w choice r p q c fe
 -- a line is of moderate size where its exact sum is
 pub moderate : (k c : ℕ) → 1 ≤ k → suc c ≤ 300 → (n : ℕ) (v : Value) → Near (2 ^ k) n (v.units * 2 ^ bias) → Sized (2 ^ bias) c n → Moderate v
 moderate k c h few n v near sized = wider (2 ^ bias) (pow_pos bias) (suc c) 300 few v.units (within (2 ^ bias) (pow_pos bias) k c n v.units h near sized)
+
+-- a step by the sum that it takes
+pub sum_given : (k : ℕ) {s t : FusedSum} → s ≡ t → is_ok (fused k t.choice (value t.r) (value t.p) (value t.q)) ≡ true → is_ok (fused k s.choice (value s.r) (value s.p) (value s.q)) ≡ true
+sum_given k e h = subst (λ (x : FusedSum). is_ok (fused k x.choice (value x.r) (value x.p) (value x.q)) ≡ true) (sym e) h
+
+pub sum_is : (k : ℕ) {s t : FusedSum} {z : Value} → s ≡ t → fused k s.choice (value s.r) (value s.p) (value s.q) ≡ Ok z → fused k t.choice (value t.r) (value t.p) (value t.q) ≡ Ok z
+sum_is k {s} {t} {z} e h = subst (λ (x : FusedSum). fused k x.choice (value x.r) (value x.p) (value x.q) ≡ Ok z) e h

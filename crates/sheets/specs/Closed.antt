@@ -7,4 +7,4 @@ use Rattle.sheets.specs.declared.closing.Closing.{Closing}
 
 -- its magnitude, in squared units
 abbrev pub closing_size : Closing → ℕ
-closing_size c = fused_size Plus (value c.r) (value c.p) (value c.q)
+closing_size c = fused_size Plus (value c.sum.r) (value c.sum.p) (value c.sum.q)

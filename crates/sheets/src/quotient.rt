@@ -12,11 +12,11 @@ ghost use Rattle.sheets.specs.Quotients.{QuotientSheet};
 ghost use Rattle.sheets.specs.Written.{values};
 
 use crate::closing::Closing;
-use crate::operand::decode::{operand, register_of};
+use crate::operand::Operand;
 use crate::quotient::lines::QuotientLines;
 use crate::seed::placed;
 use crate::sheet::Sheet;
-use crate::steps::{improved, product, residual, residual_of_one};
+use crate::steps::{improved, line, power, product, residual};
 use crate::worked::{Worked, write_out};
 use registers::{Finite, Register};
 use sources::Source;
@@ -27,17 +27,18 @@ fn quotient_lines<S: Source>(source: &S, a: Finite, b: Finite) -> QuotientLines
     ensures same_side { SameSide (beside_whole (quotient_closing result)) (beside_quotient (units_of a) (units_of b)) }
     ensures same_rounding { SameRounding (beside_whole (quotient_closing result)) (beside_quotient (units_of a) (units_of b)) }
 {
-    let dividend = operand(a);
-    let divisor = operand(b);
-    let x = register_of(dividend);
-    let d = register_of(divisor);
+    let dividend = Operand::from(a);
+    let divisor = Operand::from(b);
+    let x = Register::from(dividend);
+    let d = Register::from(divisor);
+    let one = power(0);
     let seed = source.reciprocal(divisor.significand);
     let y0 = Register::Nonzero(placed(seed, 149, divisor.exponent));
-    let e0 = residual_of_one(d, y0);
-    let e1 = improved(e0, e0);
-    let y1 = improved(y0, e1);
-    let q1 = product(x, y1, 24);
-    let r1 = residual(x, d, q1);
+    let e0 = line::<30>(residual(one, d, y0));
+    let e1 = line::<30>(improved(e0, e0));
+    let y1 = line::<30>(improved(y0, e1));
+    let q1 = line::<24>(product(x, y1));
+    let r1 = line::<30>(residual(x, d, q1));
     QuotientLines {
         y0,
         e0,

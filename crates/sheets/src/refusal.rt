@@ -10,12 +10,12 @@ pub enum Refusal {
     NoSuchLine,
 }
 
-impl Refusal {
-    /// The refusal's number.
-    pub fn number(self) -> u32
-        ensures { result ≡ number_of self }
-    {
-        match self {
+/// The refusal's number.
+impl From<Refusal> for u32 {
+    ghost from_gives = { λ refusal n. n ≡ number_of refusal };
+
+    fn from(refusal: Refusal) -> u32 {
+        match refusal {
             Refusal::NoSuchLine => 12,
         }
     }

@@ -12,14 +12,14 @@ ghost use Rattle.sheets.specs.Roots.{RootSheet};
 ghost use Rattle.sheets.specs.Written.{values};
 
 use crate::closing::Closing;
-use crate::operand::decode::{operand, radicand, register_of};
+use crate::operand::Operand;
 use crate::root::lines::RootLines;
 use crate::seed::{halved, placed};
 use crate::sheet::Sheet;
-use crate::steps::{improved, product, refined, residual, residual_of_half};
+use crate::steps::{corrected, improved, line, power, product, residual};
 use crate::worked::{Worked, write_out};
 use registers::{Finite, Register};
-use sources::Source;
+use sources::{Radicand, Source};
 
 /// The lines of the root of the magnitude of `a`.
 fn root_lines<S: Source>(source: &S, a: Finite) -> RootLines
@@ -27,21 +27,23 @@ fn root_lines<S: Source>(source: &S, a: Finite) -> RootLines
     ensures same_side { SameSide (beside_whole (root_closing result)) (beside_root (units_of a)) }
     ensures same_rounding { SameRounding (beside_whole (root_closing result)) (beside_root (units_of a)) }
 {
-    let form = operand(a);
-    let x = register_of(form);
-    let seed = source.root(radicand(form));
+    let form = Operand::from(a);
+    let x = Register::from(form);
+    let half = power(1);
+    let radicand = Radicand::from(form);
+    let seed = source.root(radicand);
     let y = placed(seed, 75, (form.exponent + 1) / 2);
     let y0 = Register::Nonzero(y);
     let h0 = Register::Nonzero(halved(y));
-    let s0 = product(x, y0, 30);
-    let d0 = residual_of_half(s0, h0);
-    let h1 = improved(h0, d0);
-    let s1 = improved(s0, d0);
-    let d1 = residual_of_half(s1, h1);
-    let e1 = residual(x, s1, s1);
-    let s2 = refined(s1, e1, h1);
-    let h2 = improved(h1, d1);
-    let e2 = residual(x, s2, s2);
+    let s0 = line::<30>(product(x, y0));
+    let d0 = line::<30>(residual(half, s0, h0));
+    let h1 = line::<30>(improved(h0, d0));
+    let s1 = line::<30>(improved(s0, d0));
+    let d1 = line::<30>(residual(half, s1, h1));
+    let e1 = line::<30>(residual(x, s1, s1));
+    let s2 = line::<24>(corrected(s1, e1, h1));
+    let h2 = line::<30>(improved(h1, d1));
+    let e2 = line::<30>(residual(x, s2, s2));
     RootLines {
         y0,
         s0,

@@ -1,83 +1,67 @@
 //! The steps that sheets are made of. None is refused where it is taken.
 
-ghost use Rattle.std.specs.Prelude.{◌≡◌, true, is_ok, Ok};
+ghost use Rattle.std.specs.Prelude.{◌≡◌, ◌-◌, ◌^◌, ◌≤◌, true, is_ok, Ok};
 ghost use Rattle.registers.specs.declared.register.Choice.TheVariants.{Minus, Plus};
+ghost use Rattle.registers.specs.declared.register.Register.TheVariants.{Zero};
 ghost use Rattle.registers.specs.Fused.{fused};
+ghost use Rattle.registers.specs.Range.{bias, lowest};
 ghost use Rattle.registers.specs.Values.{value};
 ghost use Rattle.sources.specs.Seeds.{plain};
-ghost use Rattle.sheets.specs.Operands.{half as half_value, one as one_value};
 
 use crate::stored::number;
 use registers::limits::BIAS;
-use registers::step::fused_step;
-use registers::{Choice, Register};
+use registers::{Choice, FusedSum, Register};
 
-/// One.
-fn one() -> Register
-    ensures { value result ≡ one_value }
+/// `2^-down`: one, one half and so on.
+pub(crate) fn power(down: u32) -> Register
+    requires { down ≤ lowest }
+    ensures { value result ≡ plain (2 ^ (bias - down)) }
 {
-    Register::Nonzero(number(BIAS, 0x2000_0000))
+    Register::Nonzero(number(BIAS - down, 0x2000_0000))
 }
 
-/// One half.
-fn half() -> Register
-    ensures { value result ≡ half_value }
+/// `p·q`.
+pub(crate) fn product(p: Register, q: Register) -> FusedSum
+    ensures { result ≡ record { r = Zero; choice = Plus; p = p; q = q } }
 {
-    Register::Nonzero(number(BIAS - 1, 0x2000_0000))
+    corrected(Register::Zero, p, q)
 }
 
-/// A fused step that is not refused.
-fn line(r: Register, choice: Choice, p: Register, q: Register, width: u32) -> Register
-    requires { is_ok (fused width choice (value r) (value p) (value q)) ≡ true }
-    ensures { fused width choice (value r) (value p) (value q) ≡ Ok (value result) }
+/// `r - p·q`: what a value leaves over a product.
+pub(crate) fn residual(r: Register, p: Register, q: Register) -> FusedSum
+    ensures { result ≡ record { r = r; choice = Minus; p = p; q = q } }
 {
-    fused_step(r, choice, p, q, width).unwrap()
+    FusedSum {
+        r,
+        choice: Choice::Minus,
+        p,
+        q,
+    }
 }
 
-/// `p·q`, to 24 bits or to 30.
-pub(crate) fn product(p: Register, q: Register, width: u32) -> Register
-    requires { is_ok (fused width Plus (plain 0) (value p) (value q)) ≡ true }
-    ensures { fused width Plus (plain 0) (value p) (value q) ≡ Ok (value result) }
+/// `r + p·q`: a value corrected by a product.
+pub(crate) fn corrected(r: Register, p: Register, q: Register) -> FusedSum
+    ensures { result ≡ record { r = r; choice = Plus; p = p; q = q } }
 {
-    line(Register::Zero, Choice::Plus, p, q, width)
+    FusedSum {
+        r,
+        choice: Choice::Plus,
+        p,
+        q,
+    }
 }
 
-/// `r - p·q`, to 30 bits: what a value leaves over a product.
-pub(crate) fn residual(r: Register, p: Register, q: Register) -> Register
-    requires { is_ok (fused 30 Minus (value r) (value p) (value q)) ≡ true }
-    ensures { fused 30 Minus (value r) (value p) (value q) ≡ Ok (value result) }
+/// `x + d·x`: a value improved by its relative error.
+pub(crate) fn improved(x: Register, d: Register) -> FusedSum
+    ensures { result ≡ record { r = x; choice = Plus; p = d; q = x } }
 {
-    line(r, Choice::Minus, p, q, 30)
+    corrected(x, d, x)
 }
 
-/// `1 - p·q`, to 30 bits.
-pub(crate) fn residual_of_one(p: Register, q: Register) -> Register
-    requires { is_ok (fused 30 Minus one_value (value p) (value q)) ≡ true }
-    ensures { fused 30 Minus one_value (value p) (value q) ≡ Ok (value result) }
+/// The line that a sum gives when it is rounded to `WIDTH` bits, which is not refused.
+pub(crate) fn line<const WIDTH: u32>(sum: FusedSum) -> Register
+    requires { is_ok (fused WIDTH sum.choice (value sum.r) (value sum.p) (value sum.q)) ≡ true }
+    ensures { fused WIDTH sum.choice (value sum.r) (value sum.p) (value sum.q) ≡ Ok (value result) }
 {
-    residual(one(), p, q)
-}
-
-/// `1/2 - p·q`, to 30 bits.
-pub(crate) fn residual_of_half(p: Register, q: Register) -> Register
-    requires { is_ok (fused 30 Minus half_value (value p) (value q)) ≡ true }
-    ensures { fused 30 Minus half_value (value p) (value q) ≡ Ok (value result) }
-{
-    residual(half(), p, q)
-}
-
-/// `x + d·x`, to 30 bits: a value improved by its relative error.
-pub(crate) fn improved(x: Register, d: Register) -> Register
-    requires { is_ok (fused 30 Plus (value x) (value d) (value x)) ≡ true }
-    ensures { fused 30 Plus (value x) (value d) (value x) ≡ Ok (value result) }
-{
-    line(x, Choice::Plus, d, x, 30)
-}
-
-/// `s + e·h`, to 24 bits: a root improved by its residual.
-pub(crate) fn refined(s: Register, e: Register, h: Register) -> Register
-    requires { is_ok (fused 24 Plus (value s) (value e) (value h)) ≡ true }
-    ensures { fused 24 Plus (value s) (value e) (value h) ≡ Ok (value result) }
-{
-    line(s, Choice::Plus, e, h, 24)
+    sum.step(WIDTH).unwrap()
 }

@@ -10,16 +10,7 @@ ghost use Rattle.sheets.specs.Closed.{closing_size};
 
 use crate::closing::Closing;
 use registers::mode::Rounded;
-use registers::round::round_magnitude;
-use registers::{Choice, Mode, Register};
-
-/// The magnitude of `r + p·q`, which is not zero, rounded once under a sign.
-fn rounded_sum(r: Register, p: Register, q: Register, negative: bool, mode: Mode) -> Rounded
-    requires { 0 < fused_size Plus (value r) (value p) (value q) }
-    ensures { result ≡ rounded mode negative (beside_whole (fused_size Plus (value r) (value p) (value q))) }
-{
-    round_magnitude(r, Choice::Plus, p, q, negative, mode).unwrap()
-}
+use registers::{Choice, FusedSum, Mode, Register};
 
 impl Closing {
     /// The closing value `r + p·q`.
@@ -27,13 +18,20 @@ impl Closing {
         requires { 0 < fused_size Plus (value r) (value p) (value q) }
         ensures { closing_size result ≡ fused_size Plus (value r) (value p) (value q) }
     {
-        Closing { r, p, q }
+        Closing {
+            sum: FusedSum {
+                r,
+                choice: Choice::Plus,
+                p,
+                q,
+            },
+        }
     }
 
     /// The value rounded once, straight to binary32, in a mode, under a sign, with the flags that this raises.
     pub fn round(self, negative: bool, mode: Mode) -> Rounded
         ensures answer { result ≡ rounded mode negative (beside_whole (closing_size self)) }
     {
-        rounded_sum(self.r, self.p, self.q, negative, mode)
+        self.sum.round_magnitude(negative, mode).unwrap()
     }
 }

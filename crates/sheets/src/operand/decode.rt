@@ -21,30 +21,36 @@ fn first_bits(n: Number) -> Significand
 }
 
 /// The magnitude of a finite number.
-pub(crate) fn operand(x: Finite) -> Operand
-    ensures { result.significand.bits * 2 ^ result.exponent ≡ units_of x * 2 ^ 23 }
-{
-    let n = Number::from_finite(x);
-    Operand {
-        significand: first_bits(n),
-        exponent: stored(n) - SHIFT,
+impl From<Finite> for Operand {
+    ghost from_gives = { λ x o. o.significand.bits * 2 ^ o.exponent ≡ units_of x * 2 ^ 23 };
+
+    fn from(x: Finite) -> Operand {
+        let n = Number::from(x);
+        Operand {
+            significand: first_bits(n),
+            exponent: stored(n) - SHIFT,
+        }
     }
 }
 
 /// An operand as a register number, exactly.
-pub(crate) fn register_of(x: Operand) -> Register
-    ensures { value result ≡ held_at x.significand.bits x.exponent }
-{
-    Register::Nonzero(number(x.exponent + SHIFT, x.significand.bits() * 64))
+impl From<Operand> for Register {
+    ghost from_gives = { λ x r. value r ≡ held_at x.significand.bits x.exponent };
+
+    fn from(x: Operand) -> Register {
+        Register::Nonzero(number(x.exponent + SHIFT, x.significand.bits() * 64))
+    }
 }
 
 /// The number `T = t · 2^23` of an operand `t · 4^h`, with `t` from 1 up to 4: the significand, or twice that where the power of two is an odd one.
-pub(crate) fn radicand(x: Operand) -> Radicand
-    ensures { result.bits ≡ radicand_of x.significand.bits x.exponent }
-{
-    let bits = x.significand.bits();
-    if x.exponent % 2 == 0 {
-        return Radicand::new(2 * bits).unwrap();
+impl From<Operand> for Radicand {
+    ghost from_gives = { λ x t. t.bits ≡ radicand_of x.significand.bits x.exponent };
+
+    fn from(x: Operand) -> Radicand {
+        let bits = x.significand.bits();
+        if x.exponent % 2 == 0 {
+            return Radicand::new(2 * bits).unwrap();
+        }
+        Radicand::new(bits).unwrap()
     }
-    Radicand::new(bits).unwrap()
 }

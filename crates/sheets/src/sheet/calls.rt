@@ -30,6 +30,7 @@ impl Sheet {
         requires { length (written self.old) < 11 }
         ensures { written self.new ≡ written self.old ++ (line ∷ []) }
     {
+        // An index here, and no iterator: it is the table's next free place, which the count names.
         self.lines[self.used] = line;
         self.used += 1;
     }

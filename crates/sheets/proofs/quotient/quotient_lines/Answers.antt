@@ -2,76 +2,97 @@ use Rattle.std.proofs.Common.{arith}
 use Rattle.registers.specs.Values.{value, number_value}
 use Rattle.sheets.specs.Operands.{units_of}
 use Rattle.sheets.proofs.Placing.{reciprocal_moderate}
-use Rattle.sheets.proofs.Starting.{in_range}
-use Rattle.sheets.proofs.QuotientWorked.{begun, need_e0, need_e1, need_y1, need_q1, need_r1, worked, some, same_side}
 use Rattle.sheets.proofs.Scales.{rounds_alike}
+use Rattle.sheets.proofs.Starting.{in_range}
+use Rattle.sheets.proofs.Stepped.{sum_given, sum_is}
+use Rattle.sheets.proofs.QuotientWorked.{begun, need_e0, need_e1, need_y1, need_q1, need_r1, worked, some, same_side}
 use Rattle.sheets.proofs.quotient.quotient_lines.Goals as goal
 
 pub placed-requires : goal.placed-requires
 placed-requires g c =
-    let q = c.operand-divisor.result in
+    let q = c.from-divisor.result in
     let seeds = g.S.Source.reciprocals c.args.source.now in
     let close = g.met.S.Source.reciprocals_close c.args.source.now q.significand.bits (in_range q.significand) in
     let m = reciprocal_moderate q.significand.bits (seeds q.significand.bits) (number_value c.reciprocal-seed.result) (in_range q.significand) close c.reciprocal-seed.ensures in
     (m.0, (m.1, (omega arith, q.range)))
 
-pub residual_of_one-e0-requires : goal.residual_of_one-e0-requires
-residual_of_one-e0-requires g c =
-    let q = c.operand-divisor.result in
+pub line-e0-requires : goal.line-e0-requires
+line-e0-requires g c =
+    let q = c.from-divisor.result in
     let seeds = g.S.Source.reciprocals c.args.source.now in
     let close = g.met.S.Source.reciprocals_close c.args.source.now q.significand.bits (in_range q.significand) in
-    let s = begun seeds (units_of c.args.a) (units_of c.args.b) c.operand-dividend.result q (value c.register_of-x.result) (value c.register_of-d.result) c.reciprocal-seed.result c.placed.result c.operand-dividend.ensures c.operand-divisor.ensures c.register_of-x.ensures c.register_of-d.ensures c.reciprocal-seed.ensures close c.placed.ensures.plus c.placed.ensures.exact in
-    need_e0 seeds (units_of c.args.a) (units_of c.args.b) (value c.register_of-x.result) (value c.register_of-d.result) (number_value c.placed.result) s
+    let s = begun seeds (units_of c.args.a) (units_of c.args.b) c.from-dividend.result q (value c.from-x.result) (value c.from-d.result) (value c.power-one.result) c.reciprocal-seed.result c.placed.result c.from-dividend.ensures c.from-divisor.ensures c.from-x.ensures c.from-d.ensures c.power-one.ensures c.reciprocal-seed.ensures close c.placed.ensures.plus c.placed.ensures.exact in
+    sum_given 30 c.residual.ensures (need_e0 _ _ _ _ _ _ _ s)
 
-pub improved-e1-requires : goal.improved-e1-requires
-improved-e1-requires g c =
-    let q = c.operand-divisor.result in
+pub line-e1-requires : goal.line-e1-requires
+line-e1-requires g c =
+    let q = c.from-divisor.result in
     let seeds = g.S.Source.reciprocals c.args.source.now in
     let close = g.met.S.Source.reciprocals_close c.args.source.now q.significand.bits (in_range q.significand) in
-    let s = begun seeds (units_of c.args.a) (units_of c.args.b) c.operand-dividend.result q (value c.register_of-x.result) (value c.register_of-d.result) c.reciprocal-seed.result c.placed.result c.operand-dividend.ensures c.operand-divisor.ensures c.register_of-x.ensures c.register_of-d.ensures c.reciprocal-seed.ensures close c.placed.ensures.plus c.placed.ensures.exact in
-    need_e1 seeds (units_of c.args.a) (units_of c.args.b) (value c.register_of-x.result) (value c.register_of-d.result) (number_value c.placed.result) s (value c.residual_of_one-e0.result) c.residual_of_one-e0.ensures
+    let s = begun seeds (units_of c.args.a) (units_of c.args.b) c.from-dividend.result q (value c.from-x.result) (value c.from-d.result) (value c.power-one.result) c.reciprocal-seed.result c.placed.result c.from-dividend.ensures c.from-divisor.ensures c.from-x.ensures c.from-d.ensures c.power-one.ensures c.reciprocal-seed.ensures close c.placed.ensures.plus c.placed.ensures.exact in
+    let e0_is = sum_is 30 c.residual.ensures c.line-e0.ensures in
+    sum_given 30 c.improved.ensures (need_e1 _ _ _ _ _ _ _ s _ e0_is)
 
-pub improved-y1-requires : goal.improved-y1-requires
-improved-y1-requires g c =
-    let q = c.operand-divisor.result in
+pub line-y1-requires : goal.line-y1-requires
+line-y1-requires g c =
+    let q = c.from-divisor.result in
     let seeds = g.S.Source.reciprocals c.args.source.now in
     let close = g.met.S.Source.reciprocals_close c.args.source.now q.significand.bits (in_range q.significand) in
-    let s = begun seeds (units_of c.args.a) (units_of c.args.b) c.operand-dividend.result q (value c.register_of-x.result) (value c.register_of-d.result) c.reciprocal-seed.result c.placed.result c.operand-dividend.ensures c.operand-divisor.ensures c.register_of-x.ensures c.register_of-d.ensures c.reciprocal-seed.ensures close c.placed.ensures.plus c.placed.ensures.exact in
-    need_y1 seeds (units_of c.args.a) (units_of c.args.b) (value c.register_of-x.result) (value c.register_of-d.result) (number_value c.placed.result) s (value c.residual_of_one-e0.result) c.residual_of_one-e0.ensures (value c.improved-e1.result) c.improved-e1.ensures
+    let s = begun seeds (units_of c.args.a) (units_of c.args.b) c.from-dividend.result q (value c.from-x.result) (value c.from-d.result) (value c.power-one.result) c.reciprocal-seed.result c.placed.result c.from-dividend.ensures c.from-divisor.ensures c.from-x.ensures c.from-d.ensures c.power-one.ensures c.reciprocal-seed.ensures close c.placed.ensures.plus c.placed.ensures.exact in
+    let e0_is = sum_is 30 c.residual.ensures c.line-e0.ensures in
+    let e1_is = sum_is 30 c.improved.ensures c.line-e1.ensures in
+    sum_given 30 c.improved-2.ensures (need_y1 _ _ _ _ _ _ _ s _ e0_is _ e1_is)
 
-pub product-q1-requires : goal.product-q1-requires
-product-q1-requires g c =
-    let q = c.operand-divisor.result in
+pub line-q1-requires : goal.line-q1-requires
+line-q1-requires g c =
+    let q = c.from-divisor.result in
     let seeds = g.S.Source.reciprocals c.args.source.now in
     let close = g.met.S.Source.reciprocals_close c.args.source.now q.significand.bits (in_range q.significand) in
-    let s = begun seeds (units_of c.args.a) (units_of c.args.b) c.operand-dividend.result q (value c.register_of-x.result) (value c.register_of-d.result) c.reciprocal-seed.result c.placed.result c.operand-dividend.ensures c.operand-divisor.ensures c.register_of-x.ensures c.register_of-d.ensures c.reciprocal-seed.ensures close c.placed.ensures.plus c.placed.ensures.exact in
-    need_q1 seeds (units_of c.args.a) (units_of c.args.b) (value c.register_of-x.result) (value c.register_of-d.result) (number_value c.placed.result) s (value c.residual_of_one-e0.result) c.residual_of_one-e0.ensures (value c.improved-e1.result) c.improved-e1.ensures (value c.improved-y1.result) c.improved-y1.ensures
+    let s = begun seeds (units_of c.args.a) (units_of c.args.b) c.from-dividend.result q (value c.from-x.result) (value c.from-d.result) (value c.power-one.result) c.reciprocal-seed.result c.placed.result c.from-dividend.ensures c.from-divisor.ensures c.from-x.ensures c.from-d.ensures c.power-one.ensures c.reciprocal-seed.ensures close c.placed.ensures.plus c.placed.ensures.exact in
+    let e0_is = sum_is 30 c.residual.ensures c.line-e0.ensures in
+    let e1_is = sum_is 30 c.improved.ensures c.line-e1.ensures in
+    let y1_is = sum_is 30 c.improved-2.ensures c.line-y1.ensures in
+    sum_given 24 c.product.ensures (need_q1 _ _ _ _ _ _ _ s _ e0_is _ e1_is _ y1_is)
 
-pub residual-r1-requires : goal.residual-r1-requires
-residual-r1-requires g c =
-    let q = c.operand-divisor.result in
+pub line-r1-requires : goal.line-r1-requires
+line-r1-requires g c =
+    let q = c.from-divisor.result in
     let seeds = g.S.Source.reciprocals c.args.source.now in
     let close = g.met.S.Source.reciprocals_close c.args.source.now q.significand.bits (in_range q.significand) in
-    let s = begun seeds (units_of c.args.a) (units_of c.args.b) c.operand-dividend.result q (value c.register_of-x.result) (value c.register_of-d.result) c.reciprocal-seed.result c.placed.result c.operand-dividend.ensures c.operand-divisor.ensures c.register_of-x.ensures c.register_of-d.ensures c.reciprocal-seed.ensures close c.placed.ensures.plus c.placed.ensures.exact in
-    need_r1 seeds (units_of c.args.a) (units_of c.args.b) (value c.register_of-x.result) (value c.register_of-d.result) (number_value c.placed.result) s (value c.residual_of_one-e0.result) c.residual_of_one-e0.ensures (value c.improved-e1.result) c.improved-e1.ensures (value c.improved-y1.result) c.improved-y1.ensures (value c.product-q1.result) c.product-q1.ensures
+    let s = begun seeds (units_of c.args.a) (units_of c.args.b) c.from-dividend.result q (value c.from-x.result) (value c.from-d.result) (value c.power-one.result) c.reciprocal-seed.result c.placed.result c.from-dividend.ensures c.from-divisor.ensures c.from-x.ensures c.from-d.ensures c.power-one.ensures c.reciprocal-seed.ensures close c.placed.ensures.plus c.placed.ensures.exact in
+    let e0_is = sum_is 30 c.residual.ensures c.line-e0.ensures in
+    let e1_is = sum_is 30 c.improved.ensures c.line-e1.ensures in
+    let y1_is = sum_is 30 c.improved-2.ensures c.line-y1.ensures in
+    let q1_is = sum_is 24 c.product.ensures c.line-q1.ensures in
+    sum_given 30 c.residual-2.ensures (need_r1 _ _ _ _ _ _ _ s _ e0_is _ e1_is _ y1_is _ q1_is)
 
 pub invariant_of-result : goal.invariant_of-result
 invariant_of-result g c =
-    let q = c.operand-divisor.result in
+    let q = c.from-divisor.result in
     let seeds = g.S.Source.reciprocals c.args.source.now in
     let close = g.met.S.Source.reciprocals_close c.args.source.now q.significand.bits (in_range q.significand) in
-    let s = begun seeds (units_of c.args.a) (units_of c.args.b) c.operand-dividend.result q (value c.register_of-x.result) (value c.register_of-d.result) c.reciprocal-seed.result c.placed.result c.operand-dividend.ensures c.operand-divisor.ensures c.register_of-x.ensures c.register_of-d.ensures c.reciprocal-seed.ensures close c.placed.ensures.plus c.placed.ensures.exact in
-    record { some = some seeds (units_of c.args.a) (units_of c.args.b) (value c.register_of-x.result) (value c.register_of-d.result) (number_value c.placed.result) s (value c.residual_of_one-e0.result) c.residual_of_one-e0.ensures (value c.improved-e1.result) c.improved-e1.ensures (value c.improved-y1.result) c.improved-y1.ensures (value c.product-q1.result) c.product-q1.ensures (value c.residual-r1.result) c.residual-r1.ensures }
+    let s = begun seeds (units_of c.args.a) (units_of c.args.b) c.from-dividend.result q (value c.from-x.result) (value c.from-d.result) (value c.power-one.result) c.reciprocal-seed.result c.placed.result c.from-dividend.ensures c.from-divisor.ensures c.from-x.ensures c.from-d.ensures c.power-one.ensures c.reciprocal-seed.ensures close c.placed.ensures.plus c.placed.ensures.exact in
+    let e0_is = sum_is 30 c.residual.ensures c.line-e0.ensures in
+    let e1_is = sum_is 30 c.improved.ensures c.line-e1.ensures in
+    let y1_is = sum_is 30 c.improved-2.ensures c.line-y1.ensures in
+    let q1_is = sum_is 24 c.product.ensures c.line-q1.ensures in
+    let r1_is = sum_is 30 c.residual-2.ensures c.line-r1.ensures in
+    record { some = some _ _ _ _ _ _ _ s _ e0_is _ e1_is _ y1_is _ q1_is _ r1_is }
 
 pub returns : goal.returns
 returns g c =
-    let q = c.operand-divisor.result in
+    let q = c.from-divisor.result in
     let seeds = g.S.Source.reciprocals c.args.source.now in
     let close = g.met.S.Source.reciprocals_close c.args.source.now q.significand.bits (in_range q.significand) in
-    let s = begun seeds (units_of c.args.a) (units_of c.args.b) c.operand-dividend.result q (value c.register_of-x.result) (value c.register_of-d.result) c.reciprocal-seed.result c.placed.result c.operand-dividend.ensures c.operand-divisor.ensures c.register_of-x.ensures c.register_of-d.ensures c.reciprocal-seed.ensures close c.placed.ensures.plus c.placed.ensures.exact in
-    let side = same_side seeds (units_of c.args.a) (units_of c.args.b) (value c.register_of-x.result) (value c.register_of-d.result) (number_value c.placed.result) s (value c.residual_of_one-e0.result) c.residual_of_one-e0.ensures (value c.improved-e1.result) c.improved-e1.ensures (value c.improved-y1.result) c.improved-y1.ensures (value c.product-q1.result) c.product-q1.ensures (value c.residual-r1.result) c.residual-r1.ensures in
+    let s = begun seeds (units_of c.args.a) (units_of c.args.b) c.from-dividend.result q (value c.from-x.result) (value c.from-d.result) (value c.power-one.result) c.reciprocal-seed.result c.placed.result c.from-dividend.ensures c.from-divisor.ensures c.from-x.ensures c.from-d.ensures c.power-one.ensures c.reciprocal-seed.ensures close c.placed.ensures.plus c.placed.ensures.exact in
+    let e0_is = sum_is 30 c.residual.ensures c.line-e0.ensures in
+    let e1_is = sum_is 30 c.improved.ensures c.line-e1.ensures in
+    let y1_is = sum_is 30 c.improved-2.ensures c.line-y1.ensures in
+    let q1_is = sum_is 24 c.product.ensures c.line-q1.ensures in
+    let r1_is = sum_is 30 c.residual-2.ensures c.line-r1.ensures in
+    let side = same_side _ _ _ _ _ _ _ s _ e0_is _ e1_is _ y1_is _ q1_is _ r1_is in
     record {
-      sheet = worked seeds (units_of c.args.a) (units_of c.args.b) (value c.register_of-x.result) (value c.register_of-d.result) (number_value c.placed.result) s (value c.residual_of_one-e0.result) c.residual_of_one-e0.ensures (value c.improved-e1.result) c.improved-e1.ensures (value c.improved-y1.result) c.improved-y1.ensures (value c.product-q1.result) c.product-q1.ensures (value c.residual-r1.result) c.residual-r1.ensures;
+      sheet = worked _ _ _ _ _ _ _ s _ e0_is _ e1_is _ y1_is _ q1_is _ r1_is;
       same_side = side;
       same_rounding = rounds_alike side;
     }

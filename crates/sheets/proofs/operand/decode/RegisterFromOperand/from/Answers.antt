@@ -2,7 +2,7 @@ use Rattle.std.proofs.Common.{ℕ, ◌+◌, ◌-◌, ◌*◌, ◌^◌, ap, ◌�
 use Rattle.registers.specs.Range.{lowest}
 use Rattle.sources.specs.Seeds.{plain}
 use Rattle.sheets.proofs.Decoding.{widened}
-use Rattle.sheets.proofs.operand.decode.register_of.Goals as goal
+use Rattle.sheets.proofs.operand.decode.RegisterFromOperand.from.Goals as goal
 
 pub returns : goal.returns
 returns c =
