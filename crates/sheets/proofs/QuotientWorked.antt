@@ -14,7 +14,7 @@ use Rattle.sheets.specs.Operands.{held, held_at, one}
 use Rattle.sheets.specs.Quotients.{QuotientSheet, IsReciprocalSeedLine}
 use Rattle.sheets.proofs.Placing.{reciprocal_close}
 use Rattle.sheets.proofs.QuotientChain as Chain
-use Rattle.sheets.proofs.Starting.{in_range, decoded, held_of, number_bits}
+use Rattle.sheets.proofs.Starting.{decoded, held_of, number_bits}
 
 -- the code before its first step: the operands and one as registers x, d and o, and the seed y0
 pub record Begun (seeds : ℕ → ℕ) (a b : ℕ) (x d o y0 : Value) : Type 0 where
@@ -34,7 +34,7 @@ begun seeds a b p q x d o s y ea eb ex ed eo es close plus placed = record {
   x_is = held_of a p x ea ex;
   d_is = held_of b q d eb ed;
   o_is = eo ∙ ap (λ (n : ℕ). plain (2 ^ n)) full;
-  seed = record { significand = q.significand.bits; exponent = q.exponent; in_range = in_range q.significand; is = eb; plus = plus; placed = here };
+  seed = record { significand = q.significand.bits; exponent = q.exponent; in_range = q.significand.range; is = eb; plus = plus; placed = here };
   start = record {
     dividend = decoded a p ea;
     divisor = decoded b q eb;

@@ -7,7 +7,6 @@ use Rattle.registers.specs.Fused.{fused, fused_size}
 use Rattle.registers.specs.Range.{bias}
 use Rattle.registers.specs.Values.{Value, number_value}
 use Rattle.registers.proofs.Granted.{carry_given, carry_is}
-use Rattle.sources.specs.declared.operand.Radicand.{Radicand}
 use Rattle.sources.specs.Seeds.{IsRadicand, RootSeed, plain}
 use Rattle.sheets.specs.declared.operand.Operand.{Operand}
 use Rattle.sheets.specs.Beside.{SameSide, beside_root}
@@ -18,9 +17,6 @@ use Rattle.sheets.proofs.RootChain as Chain
 use Rattle.sheets.proofs.Sizes.{inverse_range}
 use Rattle.sheets.proofs.Starting.{decoded, held_of, number_bits}
 
-pub radicand_range : (t : Radicand) → IsRadicand t.bits
-radicand_range t = record { least = t.range.0; most = t.range.1; even = t.range.2 }
-
 -- the code with the seed y0 brought to the operand
 pub record Seeded (seeds : ℕ → ℕ) (a : ℕ) (p : Operand) (y0 : Value) : Type 0 where
   pub is : p.significand.bits * 2 ^ p.exponent ≡ a * 2 ^ 23
@@ -28,26 +24,26 @@ pub record Seeded (seeds : ℕ → ℕ) (a : ℕ) (p : Operand) (y0 : Value) : T
   pub close_least : 159201 * (2 ^ bias * 2 ^ bias * 2 ^ bias) ≤ 160000 * ((held a).units * y0.units * y0.units)
   pub close_most : 160000 * ((held a).units * y0.units * y0.units) ≤ 160801 * (2 ^ bias * 2 ^ bias * 2 ^ bias)
 
-pub seeded : (seeds : ℕ → ℕ) (a : ℕ) (p : Operand) (t : Radicand) (s y0 : Value)
-    → p.significand.bits * 2 ^ p.exponent ≡ a * 2 ^ 23 → t.bits ≡ radicand_of p.significand.bits p.exponent
-    → s ≡ plain (seeds t.bits) → RootSeed 400 t.bits (seeds t.bits)
+pub seeded : (seeds : ℕ → ℕ) (a : ℕ) (p : Operand) (t : ℕ) (s y0 : Value)
+    → p.significand.bits * 2 ^ p.exponent ≡ a * 2 ^ 23 → t ≡ radicand_of p.significand.bits p.exponent
+    → IsRadicand t → s ≡ plain (seeds t) → RootSeed 400 t (seeds t)
     → y0.negative ≡ false → y0.units * 2 ^ ((p.exponent + 1) / 2) ≡ s.units * 2 ^ 75
     → Seeded seeds a p y0
-seeded seeds a p t s y0 ea et es close plus placed = record {
+seeded seeds a p t s y0 ea et range es close plus placed = record {
   is = ea;
-  seed = record { radicand = t.bits; exponent = (p.exponent + 1) / 2; in_range = radicand_range t; is = fours; plus = plus; placed = here };
+  seed = record { radicand = t; exponent = (p.exponent + 1) / 2; in_range = range; is = fours; plus = plus; placed = here };
   close_least = near.0;
   close_most = near.1;
 }
   where
-    here : y0.units * 2 ^ ((p.exponent + 1) / 2) ≡ seeds t.bits * 2 ^ 75
+    here : y0.units * 2 ^ ((p.exponent + 1) / 2) ≡ seeds t * 2 ^ 75
     here = placed ∙ ap (λ v. v.units * 2 ^ 75) es
 
-    fours : t.bits * 2 ^ (2 * ((p.exponent + 1) / 2)) ≡ a * 2 ^ 24
+    fours : t * 2 ^ (2 * ((p.exponent + 1) / 2)) ≡ a * 2 ^ 24
     fours = ap (λ b. b * 2 ^ (2 * ((p.exponent + 1) / 2))) et ∙ radicand_is p.significand.bits p.exponent ∙ omega (arith, ea)
 
     near : (159201 * (2 ^ bias * 2 ^ bias * 2 ^ bias) ≤ 160000 * ((held a).units * y0.units * y0.units)) × (160000 * ((held a).units * y0.units * y0.units) ≤ 160801 * (2 ^ bias * 2 ^ bias * 2 ^ bias))
-    near = root_close a t.bits ((p.exponent + 1) / 2) (seeds t.bits) y0.units close fours here
+    near = root_close a t ((p.exponent + 1) / 2) (seeds t) y0.units close fours here
 
 -- so the seed can be halved
 pub seed_moderate : (seeds : ℕ → ℕ) (a : ℕ) (p : Operand) (y0 : Value) → Seeded seeds a p y0 → (2 ^ bias ≤ y0.units * 2 ^ 150) × (y0.units ≤ 2 ^ bias * 2 ^ 150)

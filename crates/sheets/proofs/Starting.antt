@@ -3,17 +3,13 @@ use Rattle.std.proofs.Common.{◌≡◌, ℕ, ◌*◌, ◌^◌, refl, ap, ◌∙
 use Rattle.registers.specs.declared.register.Number.{Number}
 use Rattle.registers.specs.Laws.{Bits}
 use Rattle.registers.specs.Values.{Value, number_value}
-use Rattle.sources.specs.declared.operand.Significand.{Significand}
-use Rattle.sources.specs.Seeds.{IsSignificand, plain}
+use Rattle.sources.specs.Seeds.{plain}
 use Rattle.sheets.specs.declared.operand.Operand.{Operand}
 use Rattle.sheets.specs.Operands.{held, held_at}
 use Rattle.sheets.proofs.Placing.{Decoded, held_is}
 
-pub in_range : (s : Significand) → IsSignificand s.bits
-in_range s = record { least = s.range.0; most = s.range.1 }
-
 abbrev pub decoded : (n : ℕ) (o : Operand) → o.significand.bits * 2 ^ o.exponent ≡ n * 2 ^ 23 → Decoded n
-decoded n o e = record { significand = o.significand.bits; exponent = o.exponent; range = in_range o.significand; few = o.range; is = e }
+decoded n o e = record { significand = o.significand.bits; exponent = o.exponent; range = o.significand.range; few = o.range; is = e }
 
 pub held_of : (n : ℕ) (o : Operand) (v : Value) → o.significand.bits * 2 ^ o.exponent ≡ n * 2 ^ 23 → v ≡ held_at o.significand.bits o.exponent → v ≡ held n
 held_of n o v e f = f ∙ ap plain (held_is n o.significand.bits o.exponent e)

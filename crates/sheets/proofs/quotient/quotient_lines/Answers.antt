@@ -3,7 +3,6 @@ use Rattle.registers.specs.Values.{value, number_value}
 use Rattle.sheets.specs.Operands.{units_of}
 use Rattle.sheets.proofs.Placing.{reciprocal_moderate}
 use Rattle.sheets.proofs.Scales.{rounds_alike}
-use Rattle.sheets.proofs.Starting.{in_range}
 use Rattle.sheets.proofs.Stepped.{sum_given, sum_is}
 use Rattle.sheets.proofs.QuotientWorked.{begun, need_e0, need_e1, need_y1, need_q1, need_r1, worked, some, same_side}
 use Rattle.sheets.proofs.quotient.quotient_lines.Goals as goal
@@ -12,15 +11,15 @@ pub placed-requires : goal.placed-requires
 placed-requires g c =
     let q = c.from-divisor.result in
     let seeds = g.S.Source.reciprocals c.args.source.now in
-    let close = g.met.S.Source.reciprocals_close c.args.source.now q.significand.bits (in_range q.significand) in
-    let m = reciprocal_moderate q.significand.bits (seeds q.significand.bits) (number_value c.reciprocal-seed.result) (in_range q.significand) close c.reciprocal-seed.ensures in
+    let close = g.met.S.Source.reciprocals_close c.args.source.now q.significand.bits q.significand.range in
+    let m = reciprocal_moderate q.significand.bits (seeds q.significand.bits) (number_value c.reciprocal-seed.result) q.significand.range close c.reciprocal-seed.ensures in
     (m.0, (m.1, (omega arith, q.range)))
 
 pub line-e0-requires : goal.line-e0-requires
 line-e0-requires g c =
     let q = c.from-divisor.result in
     let seeds = g.S.Source.reciprocals c.args.source.now in
-    let close = g.met.S.Source.reciprocals_close c.args.source.now q.significand.bits (in_range q.significand) in
+    let close = g.met.S.Source.reciprocals_close c.args.source.now q.significand.bits q.significand.range in
     let s = begun seeds (units_of c.args.a) (units_of c.args.b) c.from-dividend.result q (value c.from-x.result) (value c.from-d.result) (value c.power-one.result) c.reciprocal-seed.result c.placed.result c.from-dividend.ensures c.from-divisor.ensures c.from-x.ensures c.from-d.ensures c.power-one.ensures c.reciprocal-seed.ensures close c.placed.ensures.plus c.placed.ensures.exact in
     sum_given 30 c.residual.ensures (need_e0 _ _ _ _ _ _ _ s)
 
@@ -28,7 +27,7 @@ pub line-e1-requires : goal.line-e1-requires
 line-e1-requires g c =
     let q = c.from-divisor.result in
     let seeds = g.S.Source.reciprocals c.args.source.now in
-    let close = g.met.S.Source.reciprocals_close c.args.source.now q.significand.bits (in_range q.significand) in
+    let close = g.met.S.Source.reciprocals_close c.args.source.now q.significand.bits q.significand.range in
     let s = begun seeds (units_of c.args.a) (units_of c.args.b) c.from-dividend.result q (value c.from-x.result) (value c.from-d.result) (value c.power-one.result) c.reciprocal-seed.result c.placed.result c.from-dividend.ensures c.from-divisor.ensures c.from-x.ensures c.from-d.ensures c.power-one.ensures c.reciprocal-seed.ensures close c.placed.ensures.plus c.placed.ensures.exact in
     let e0_is = sum_is 30 c.residual.ensures c.line-e0.ensures in
     sum_given 30 c.improved.ensures (need_e1 _ _ _ _ _ _ _ s _ e0_is)
@@ -37,7 +36,7 @@ pub line-y1-requires : goal.line-y1-requires
 line-y1-requires g c =
     let q = c.from-divisor.result in
     let seeds = g.S.Source.reciprocals c.args.source.now in
-    let close = g.met.S.Source.reciprocals_close c.args.source.now q.significand.bits (in_range q.significand) in
+    let close = g.met.S.Source.reciprocals_close c.args.source.now q.significand.bits q.significand.range in
     let s = begun seeds (units_of c.args.a) (units_of c.args.b) c.from-dividend.result q (value c.from-x.result) (value c.from-d.result) (value c.power-one.result) c.reciprocal-seed.result c.placed.result c.from-dividend.ensures c.from-divisor.ensures c.from-x.ensures c.from-d.ensures c.power-one.ensures c.reciprocal-seed.ensures close c.placed.ensures.plus c.placed.ensures.exact in
     let e0_is = sum_is 30 c.residual.ensures c.line-e0.ensures in
     let e1_is = sum_is 30 c.improved.ensures c.line-e1.ensures in
@@ -47,7 +46,7 @@ pub line-q1-requires : goal.line-q1-requires
 line-q1-requires g c =
     let q = c.from-divisor.result in
     let seeds = g.S.Source.reciprocals c.args.source.now in
-    let close = g.met.S.Source.reciprocals_close c.args.source.now q.significand.bits (in_range q.significand) in
+    let close = g.met.S.Source.reciprocals_close c.args.source.now q.significand.bits q.significand.range in
     let s = begun seeds (units_of c.args.a) (units_of c.args.b) c.from-dividend.result q (value c.from-x.result) (value c.from-d.result) (value c.power-one.result) c.reciprocal-seed.result c.placed.result c.from-dividend.ensures c.from-divisor.ensures c.from-x.ensures c.from-d.ensures c.power-one.ensures c.reciprocal-seed.ensures close c.placed.ensures.plus c.placed.ensures.exact in
     let e0_is = sum_is 30 c.residual.ensures c.line-e0.ensures in
     let e1_is = sum_is 30 c.improved.ensures c.line-e1.ensures in
@@ -58,7 +57,7 @@ pub line-r1-requires : goal.line-r1-requires
 line-r1-requires g c =
     let q = c.from-divisor.result in
     let seeds = g.S.Source.reciprocals c.args.source.now in
-    let close = g.met.S.Source.reciprocals_close c.args.source.now q.significand.bits (in_range q.significand) in
+    let close = g.met.S.Source.reciprocals_close c.args.source.now q.significand.bits q.significand.range in
     let s = begun seeds (units_of c.args.a) (units_of c.args.b) c.from-dividend.result q (value c.from-x.result) (value c.from-d.result) (value c.power-one.result) c.reciprocal-seed.result c.placed.result c.from-dividend.ensures c.from-divisor.ensures c.from-x.ensures c.from-d.ensures c.power-one.ensures c.reciprocal-seed.ensures close c.placed.ensures.plus c.placed.ensures.exact in
     let e0_is = sum_is 30 c.residual.ensures c.line-e0.ensures in
     let e1_is = sum_is 30 c.improved.ensures c.line-e1.ensures in
@@ -70,7 +69,7 @@ pub invariant_of-result : goal.invariant_of-result
 invariant_of-result g c =
     let q = c.from-divisor.result in
     let seeds = g.S.Source.reciprocals c.args.source.now in
-    let close = g.met.S.Source.reciprocals_close c.args.source.now q.significand.bits (in_range q.significand) in
+    let close = g.met.S.Source.reciprocals_close c.args.source.now q.significand.bits q.significand.range in
     let s = begun seeds (units_of c.args.a) (units_of c.args.b) c.from-dividend.result q (value c.from-x.result) (value c.from-d.result) (value c.power-one.result) c.reciprocal-seed.result c.placed.result c.from-dividend.ensures c.from-divisor.ensures c.from-x.ensures c.from-d.ensures c.power-one.ensures c.reciprocal-seed.ensures close c.placed.ensures.plus c.placed.ensures.exact in
     let e0_is = sum_is 30 c.residual.ensures c.line-e0.ensures in
     let e1_is = sum_is 30 c.improved.ensures c.line-e1.ensures in
@@ -83,7 +82,7 @@ pub returns : goal.returns
 returns g c =
     let q = c.from-divisor.result in
     let seeds = g.S.Source.reciprocals c.args.source.now in
-    let close = g.met.S.Source.reciprocals_close c.args.source.now q.significand.bits (in_range q.significand) in
+    let close = g.met.S.Source.reciprocals_close c.args.source.now q.significand.bits q.significand.range in
     let s = begun seeds (units_of c.args.a) (units_of c.args.b) c.from-dividend.result q (value c.from-x.result) (value c.from-d.result) (value c.power-one.result) c.reciprocal-seed.result c.placed.result c.from-dividend.ensures c.from-divisor.ensures c.from-x.ensures c.from-d.ensures c.power-one.ensures c.reciprocal-seed.ensures close c.placed.ensures.plus c.placed.ensures.exact in
     let e0_is = sum_is 30 c.residual.ensures c.line-e0.ensures in
     let e1_is = sum_is 30 c.improved.ensures c.line-e1.ensures in

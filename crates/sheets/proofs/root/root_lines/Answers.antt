@@ -4,7 +4,7 @@ use Rattle.sheets.specs.Operands.{units_of}
 use Rattle.sheets.proofs.Placing.{root_moderate}
 use Rattle.sheets.proofs.Scales.{rounds_alike}
 use Rattle.sheets.proofs.Stepped.{sum_given, sum_is}
-use Rattle.sheets.proofs.RootWorked.{radicand_range, seeded, seed_moderate, begun, need_s0, need_d0, need_h1, need_s1, need_d1, need_e1, need_s2, need_h2, need_e2, worked, some, same_side}
+use Rattle.sheets.proofs.RootWorked.{seeded, seed_moderate, begun, need_s0, need_d0, need_h1, need_s1, need_d1, need_e1, need_s2, need_h2, need_e2, worked, some, same_side}
 use Rattle.sheets.proofs.root.root_lines.Goals as goal
 
 pub placed-y-requires : goal.placed-y-requires
@@ -12,8 +12,8 @@ placed-y-requires g c =
     let p = c.from-form.result in
     let t = c.from-radicand.result in
     let seeds = g.S.Source.roots c.args.source.now in
-    let close = g.met.S.Source.roots_close c.args.source.now t.bits (radicand_range t) in
-    let m = root_moderate t.bits (seeds t.bits) (number_value c.root-seed.result) (radicand_range t) close c.root-seed.ensures in
+    let close = g.met.S.Source.roots_close c.args.source.now t.bits t.range in
+    let m = root_moderate t.bits (seeds t.bits) (number_value c.root-seed.result) t.range close c.root-seed.ensures in
     (m.0, (m.1, (omega arith, omega (arith, p.range))))
 
 pub halved-requires : goal.halved-requires
@@ -21,8 +21,8 @@ halved-requires g c =
     let p = c.from-form.result in
     let t = c.from-radicand.result in
     let seeds = g.S.Source.roots c.args.source.now in
-    let close = g.met.S.Source.roots_close c.args.source.now t.bits (radicand_range t) in
-    let r = seeded seeds (units_of c.args.a) p t (number_value c.root-seed.result) (number_value c.placed-y.result) c.from-form.ensures c.from-radicand.ensures c.root-seed.ensures close c.placed-y.ensures.plus c.placed-y.ensures.exact in
+    let close = g.met.S.Source.roots_close c.args.source.now t.bits t.range in
+    let r = seeded seeds (units_of c.args.a) p t.bits (number_value c.root-seed.result) (number_value c.placed-y.result) c.from-form.ensures c.from-radicand.ensures t.range c.root-seed.ensures close c.placed-y.ensures.plus c.placed-y.ensures.exact in
     seed_moderate seeds (units_of c.args.a) p (number_value c.placed-y.result) r
 
 pub line-s0-requires : goal.line-s0-requires
@@ -30,8 +30,8 @@ line-s0-requires g c =
     let p = c.from-form.result in
     let t = c.from-radicand.result in
     let seeds = g.S.Source.roots c.args.source.now in
-    let close = g.met.S.Source.roots_close c.args.source.now t.bits (radicand_range t) in
-    let r = seeded seeds (units_of c.args.a) p t (number_value c.root-seed.result) (number_value c.placed-y.result) c.from-form.ensures c.from-radicand.ensures c.root-seed.ensures close c.placed-y.ensures.plus c.placed-y.ensures.exact in
+    let close = g.met.S.Source.roots_close c.args.source.now t.bits t.range in
+    let r = seeded seeds (units_of c.args.a) p t.bits (number_value c.root-seed.result) (number_value c.placed-y.result) c.from-form.ensures c.from-radicand.ensures t.range c.root-seed.ensures close c.placed-y.ensures.plus c.placed-y.ensures.exact in
     let s = begun seeds (units_of c.args.a) p (value c.from-x.result) (value c.power-half.result) (number_value c.placed-y.result) c.halved.result r c.from-x.ensures c.power-half.ensures c.halved.ensures in
     sum_given 30 c.product.ensures (need_s0 _ _ _ _ _ _ s)
 
@@ -40,8 +40,8 @@ line-d0-requires g c =
     let p = c.from-form.result in
     let t = c.from-radicand.result in
     let seeds = g.S.Source.roots c.args.source.now in
-    let close = g.met.S.Source.roots_close c.args.source.now t.bits (radicand_range t) in
-    let r = seeded seeds (units_of c.args.a) p t (number_value c.root-seed.result) (number_value c.placed-y.result) c.from-form.ensures c.from-radicand.ensures c.root-seed.ensures close c.placed-y.ensures.plus c.placed-y.ensures.exact in
+    let close = g.met.S.Source.roots_close c.args.source.now t.bits t.range in
+    let r = seeded seeds (units_of c.args.a) p t.bits (number_value c.root-seed.result) (number_value c.placed-y.result) c.from-form.ensures c.from-radicand.ensures t.range c.root-seed.ensures close c.placed-y.ensures.plus c.placed-y.ensures.exact in
     let s = begun seeds (units_of c.args.a) p (value c.from-x.result) (value c.power-half.result) (number_value c.placed-y.result) c.halved.result r c.from-x.ensures c.power-half.ensures c.halved.ensures in
     let s0_is = sum_is 30 c.product.ensures c.line-s0.ensures in
     sum_given 30 c.residual.ensures (need_d0 _ _ _ _ _ _ s _ s0_is)
@@ -51,8 +51,8 @@ line-h1-requires g c =
     let p = c.from-form.result in
     let t = c.from-radicand.result in
     let seeds = g.S.Source.roots c.args.source.now in
-    let close = g.met.S.Source.roots_close c.args.source.now t.bits (radicand_range t) in
-    let r = seeded seeds (units_of c.args.a) p t (number_value c.root-seed.result) (number_value c.placed-y.result) c.from-form.ensures c.from-radicand.ensures c.root-seed.ensures close c.placed-y.ensures.plus c.placed-y.ensures.exact in
+    let close = g.met.S.Source.roots_close c.args.source.now t.bits t.range in
+    let r = seeded seeds (units_of c.args.a) p t.bits (number_value c.root-seed.result) (number_value c.placed-y.result) c.from-form.ensures c.from-radicand.ensures t.range c.root-seed.ensures close c.placed-y.ensures.plus c.placed-y.ensures.exact in
     let s = begun seeds (units_of c.args.a) p (value c.from-x.result) (value c.power-half.result) (number_value c.placed-y.result) c.halved.result r c.from-x.ensures c.power-half.ensures c.halved.ensures in
     let s0_is = sum_is 30 c.product.ensures c.line-s0.ensures in
     let d0_is = sum_is 30 c.residual.ensures c.line-d0.ensures in
@@ -63,8 +63,8 @@ line-s1-requires g c =
     let p = c.from-form.result in
     let t = c.from-radicand.result in
     let seeds = g.S.Source.roots c.args.source.now in
-    let close = g.met.S.Source.roots_close c.args.source.now t.bits (radicand_range t) in
-    let r = seeded seeds (units_of c.args.a) p t (number_value c.root-seed.result) (number_value c.placed-y.result) c.from-form.ensures c.from-radicand.ensures c.root-seed.ensures close c.placed-y.ensures.plus c.placed-y.ensures.exact in
+    let close = g.met.S.Source.roots_close c.args.source.now t.bits t.range in
+    let r = seeded seeds (units_of c.args.a) p t.bits (number_value c.root-seed.result) (number_value c.placed-y.result) c.from-form.ensures c.from-radicand.ensures t.range c.root-seed.ensures close c.placed-y.ensures.plus c.placed-y.ensures.exact in
     let s = begun seeds (units_of c.args.a) p (value c.from-x.result) (value c.power-half.result) (number_value c.placed-y.result) c.halved.result r c.from-x.ensures c.power-half.ensures c.halved.ensures in
     let s0_is = sum_is 30 c.product.ensures c.line-s0.ensures in
     let d0_is = sum_is 30 c.residual.ensures c.line-d0.ensures in
@@ -75,8 +75,8 @@ line-d1-requires g c =
     let p = c.from-form.result in
     let t = c.from-radicand.result in
     let seeds = g.S.Source.roots c.args.source.now in
-    let close = g.met.S.Source.roots_close c.args.source.now t.bits (radicand_range t) in
-    let r = seeded seeds (units_of c.args.a) p t (number_value c.root-seed.result) (number_value c.placed-y.result) c.from-form.ensures c.from-radicand.ensures c.root-seed.ensures close c.placed-y.ensures.plus c.placed-y.ensures.exact in
+    let close = g.met.S.Source.roots_close c.args.source.now t.bits t.range in
+    let r = seeded seeds (units_of c.args.a) p t.bits (number_value c.root-seed.result) (number_value c.placed-y.result) c.from-form.ensures c.from-radicand.ensures t.range c.root-seed.ensures close c.placed-y.ensures.plus c.placed-y.ensures.exact in
     let s = begun seeds (units_of c.args.a) p (value c.from-x.result) (value c.power-half.result) (number_value c.placed-y.result) c.halved.result r c.from-x.ensures c.power-half.ensures c.halved.ensures in
     let s0_is = sum_is 30 c.product.ensures c.line-s0.ensures in
     let d0_is = sum_is 30 c.residual.ensures c.line-d0.ensures in
@@ -89,8 +89,8 @@ line-e1-requires g c =
     let p = c.from-form.result in
     let t = c.from-radicand.result in
     let seeds = g.S.Source.roots c.args.source.now in
-    let close = g.met.S.Source.roots_close c.args.source.now t.bits (radicand_range t) in
-    let r = seeded seeds (units_of c.args.a) p t (number_value c.root-seed.result) (number_value c.placed-y.result) c.from-form.ensures c.from-radicand.ensures c.root-seed.ensures close c.placed-y.ensures.plus c.placed-y.ensures.exact in
+    let close = g.met.S.Source.roots_close c.args.source.now t.bits t.range in
+    let r = seeded seeds (units_of c.args.a) p t.bits (number_value c.root-seed.result) (number_value c.placed-y.result) c.from-form.ensures c.from-radicand.ensures t.range c.root-seed.ensures close c.placed-y.ensures.plus c.placed-y.ensures.exact in
     let s = begun seeds (units_of c.args.a) p (value c.from-x.result) (value c.power-half.result) (number_value c.placed-y.result) c.halved.result r c.from-x.ensures c.power-half.ensures c.halved.ensures in
     let s0_is = sum_is 30 c.product.ensures c.line-s0.ensures in
     let d0_is = sum_is 30 c.residual.ensures c.line-d0.ensures in
@@ -103,8 +103,8 @@ line-s2-requires g c =
     let p = c.from-form.result in
     let t = c.from-radicand.result in
     let seeds = g.S.Source.roots c.args.source.now in
-    let close = g.met.S.Source.roots_close c.args.source.now t.bits (radicand_range t) in
-    let r = seeded seeds (units_of c.args.a) p t (number_value c.root-seed.result) (number_value c.placed-y.result) c.from-form.ensures c.from-radicand.ensures c.root-seed.ensures close c.placed-y.ensures.plus c.placed-y.ensures.exact in
+    let close = g.met.S.Source.roots_close c.args.source.now t.bits t.range in
+    let r = seeded seeds (units_of c.args.a) p t.bits (number_value c.root-seed.result) (number_value c.placed-y.result) c.from-form.ensures c.from-radicand.ensures t.range c.root-seed.ensures close c.placed-y.ensures.plus c.placed-y.ensures.exact in
     let s = begun seeds (units_of c.args.a) p (value c.from-x.result) (value c.power-half.result) (number_value c.placed-y.result) c.halved.result r c.from-x.ensures c.power-half.ensures c.halved.ensures in
     let s0_is = sum_is 30 c.product.ensures c.line-s0.ensures in
     let d0_is = sum_is 30 c.residual.ensures c.line-d0.ensures in
@@ -119,8 +119,8 @@ line-h2-requires g c =
     let p = c.from-form.result in
     let t = c.from-radicand.result in
     let seeds = g.S.Source.roots c.args.source.now in
-    let close = g.met.S.Source.roots_close c.args.source.now t.bits (radicand_range t) in
-    let r = seeded seeds (units_of c.args.a) p t (number_value c.root-seed.result) (number_value c.placed-y.result) c.from-form.ensures c.from-radicand.ensures c.root-seed.ensures close c.placed-y.ensures.plus c.placed-y.ensures.exact in
+    let close = g.met.S.Source.roots_close c.args.source.now t.bits t.range in
+    let r = seeded seeds (units_of c.args.a) p t.bits (number_value c.root-seed.result) (number_value c.placed-y.result) c.from-form.ensures c.from-radicand.ensures t.range c.root-seed.ensures close c.placed-y.ensures.plus c.placed-y.ensures.exact in
     let s = begun seeds (units_of c.args.a) p (value c.from-x.result) (value c.power-half.result) (number_value c.placed-y.result) c.halved.result r c.from-x.ensures c.power-half.ensures c.halved.ensures in
     let s0_is = sum_is 30 c.product.ensures c.line-s0.ensures in
     let d0_is = sum_is 30 c.residual.ensures c.line-d0.ensures in
@@ -135,8 +135,8 @@ line-e2-requires g c =
     let p = c.from-form.result in
     let t = c.from-radicand.result in
     let seeds = g.S.Source.roots c.args.source.now in
-    let close = g.met.S.Source.roots_close c.args.source.now t.bits (radicand_range t) in
-    let r = seeded seeds (units_of c.args.a) p t (number_value c.root-seed.result) (number_value c.placed-y.result) c.from-form.ensures c.from-radicand.ensures c.root-seed.ensures close c.placed-y.ensures.plus c.placed-y.ensures.exact in
+    let close = g.met.S.Source.roots_close c.args.source.now t.bits t.range in
+    let r = seeded seeds (units_of c.args.a) p t.bits (number_value c.root-seed.result) (number_value c.placed-y.result) c.from-form.ensures c.from-radicand.ensures t.range c.root-seed.ensures close c.placed-y.ensures.plus c.placed-y.ensures.exact in
     let s = begun seeds (units_of c.args.a) p (value c.from-x.result) (value c.power-half.result) (number_value c.placed-y.result) c.halved.result r c.from-x.ensures c.power-half.ensures c.halved.ensures in
     let s0_is = sum_is 30 c.product.ensures c.line-s0.ensures in
     let d0_is = sum_is 30 c.residual.ensures c.line-d0.ensures in
@@ -153,8 +153,8 @@ invariant_of-result g c =
     let p = c.from-form.result in
     let t = c.from-radicand.result in
     let seeds = g.S.Source.roots c.args.source.now in
-    let close = g.met.S.Source.roots_close c.args.source.now t.bits (radicand_range t) in
-    let r = seeded seeds (units_of c.args.a) p t (number_value c.root-seed.result) (number_value c.placed-y.result) c.from-form.ensures c.from-radicand.ensures c.root-seed.ensures close c.placed-y.ensures.plus c.placed-y.ensures.exact in
+    let close = g.met.S.Source.roots_close c.args.source.now t.bits t.range in
+    let r = seeded seeds (units_of c.args.a) p t.bits (number_value c.root-seed.result) (number_value c.placed-y.result) c.from-form.ensures c.from-radicand.ensures t.range c.root-seed.ensures close c.placed-y.ensures.plus c.placed-y.ensures.exact in
     let s = begun seeds (units_of c.args.a) p (value c.from-x.result) (value c.power-half.result) (number_value c.placed-y.result) c.halved.result r c.from-x.ensures c.power-half.ensures c.halved.ensures in
     let s0_is = sum_is 30 c.product.ensures c.line-s0.ensures in
     let d0_is = sum_is 30 c.residual.ensures c.line-d0.ensures in
@@ -172,8 +172,8 @@ returns g c =
     let p = c.from-form.result in
     let t = c.from-radicand.result in
     let seeds = g.S.Source.roots c.args.source.now in
-    let close = g.met.S.Source.roots_close c.args.source.now t.bits (radicand_range t) in
-    let r = seeded seeds (units_of c.args.a) p t (number_value c.root-seed.result) (number_value c.placed-y.result) c.from-form.ensures c.from-radicand.ensures c.root-seed.ensures close c.placed-y.ensures.plus c.placed-y.ensures.exact in
+    let close = g.met.S.Source.roots_close c.args.source.now t.bits t.range in
+    let r = seeded seeds (units_of c.args.a) p t.bits (number_value c.root-seed.result) (number_value c.placed-y.result) c.from-form.ensures c.from-radicand.ensures t.range c.root-seed.ensures close c.placed-y.ensures.plus c.placed-y.ensures.exact in
     let s = begun seeds (units_of c.args.a) p (value c.from-x.result) (value c.power-half.result) (number_value c.placed-y.result) c.halved.result r c.from-x.ensures c.power-half.ensures c.halved.ensures in
     let s0_is = sum_is 30 c.product.ensures c.line-s0.ensures in
     let d0_is = sum_is 30 c.residual.ensures c.line-d0.ensures in
