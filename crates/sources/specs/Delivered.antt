@@ -29,10 +29,10 @@ delivered_root Table t = table_root t
 delivered_root Line t = line_root t
 
 -- they are close
-pub reciprocals_are_close : (s : Delivered) (b : ℕ) → IsSignificand b → ReciprocalSeed 400 b (delivered_reciprocal s b)
-reciprocals_are_close Table b h = tabulated.reciprocals_are_close b h
-reciprocals_are_close Line b h = lined.reciprocals_are_close b h
+pub delivered_reciprocals_close : (s : Delivered) (b : ℕ) → IsSignificand b → ReciprocalSeed 400 b (delivered_reciprocal s b)
+delivered_reciprocals_close Table b h = tabulated.reciprocals_are_close b h
+delivered_reciprocals_close Line b h = lined.reciprocals_are_close b h
 
-pub roots_are_close : (s : Delivered) (t : ℕ) → IsRadicand t → RootSeed 400 t (delivered_root s t)
-roots_are_close Table t h = tabulated.roots_are_close t h
-roots_are_close Line t h = lined_roots.roots_are_close t h
+pub delivered_roots_close : (s : Delivered) (t : ℕ) → IsRadicand t → RootSeed 400 t (delivered_root s t)
+delivered_roots_close Table t h = tabulated.roots_are_close t h
+delivered_roots_close Line t h = lined_roots.roots_are_close t h

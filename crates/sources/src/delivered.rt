@@ -36,15 +36,15 @@ impl Delivered {
 }
 
 impl Source for Delivered {
-    ghost use Rattle.sources.specs.Delivered.{delivered_reciprocal, delivered_root, reciprocals_are_close, roots_are_close};
+    ghost use Rattle.sources.specs.Delivered.{delivered_reciprocal, delivered_reciprocals_close, delivered_root, delivered_roots_close};
 
     ghost reciprocals = { delivered_reciprocal };
 
     ghost roots = { delivered_root };
 
-    ghost reciprocals_close = { reciprocals_are_close };
+    ghost reciprocals_close = { delivered_reciprocals_close };
 
-    ghost roots_close = { roots_are_close };
+    ghost roots_close = { delivered_roots_close };
 
     fn reciprocal(&self, b: Significand) -> Number {
         match self {
