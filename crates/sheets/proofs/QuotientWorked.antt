@@ -7,7 +7,7 @@ use Rattle.registers.specs.Fused.{fused, fused_size}
 use Rattle.registers.specs.Range.{bias}
 use Rattle.registers.specs.Values.{Value, number_value}
 use Rattle.registers.proofs.Granted.{carry_given, carry_is}
-use Rattle.sources.specs.Seeds.{ReciprocalSeed, plain}
+use Rattle.sources.specs.Seeds.{IsSignificand, ReciprocalSeed, plain}
 use Rattle.sheets.specs.declared.operand.Operand.{Operand}
 use Rattle.sheets.specs.Beside.{SameSide, beside_quotient}
 use Rattle.sheets.specs.Operands.{held, held_at, one}
@@ -27,7 +27,7 @@ pub record Begun (seeds : ℕ → ℕ) (a b : ℕ) (x d o y0 : Value) : Type 0 w
 pub begun : (seeds : ℕ → ℕ) (a b : ℕ) (p q : Operand) (x d o : Value) (s y : Number)
     → p.significand.bits * 2 ^ p.exponent ≡ a * 2 ^ 23 → q.significand.bits * 2 ^ q.exponent ≡ b * 2 ^ 23
     → x ≡ held_at p.significand.bits p.exponent → d ≡ held_at q.significand.bits q.exponent → o ≡ plain (2 ^ (bias - 0))
-    → number_value s ≡ plain (seeds q.significand.bits) → ReciprocalSeed 400 q.significand.bits (seeds q.significand.bits)
+    → number_value s ≡ plain (seeds q.significand.bits) → ((n : ℕ) → IsSignificand n → ReciprocalSeed 400 n (seeds n))
     → (number_value y).negative ≡ false → (number_value y).units * 2 ^ q.exponent ≡ (number_value s).units * 2 ^ 149
     → Begun seeds a b x d o (number_value y)
 begun seeds a b p q x d o s y ea eb ex ed eo es close plus placed = record {
@@ -52,7 +52,7 @@ begun seeds a b p q x d o s y ea eb ex ed eo es close plus placed = record {
     here = placed ∙ ap (λ v. v.units * 2 ^ 149) es
 
     near : (399 * (2 ^ bias * 2 ^ bias) ≤ 400 * ((held b).units * (number_value y).units)) × (400 * ((held b).units * (number_value y).units) ≤ 401 * (2 ^ bias * 2 ^ bias))
-    near = reciprocal_close b (decoded b q eb) (seeds q.significand.bits) (number_value y).units close here
+    near = reciprocal_close b (decoded b q eb) (seeds q.significand.bits) (number_value y).units (close q.significand.bits q.significand.range) here
 
 -- each step is given, and its equation is that of the sheet
 module _ (seeds : ℕ → ℕ) (a b : ℕ) (x d o y0 : Value) (g : Begun seeds a b x d o y0) where

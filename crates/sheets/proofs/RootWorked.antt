@@ -67,6 +67,14 @@ begun seeds a p x o y0 h g ex eo halved = record {
   start = record { operand = decoded a p g.is; y0_plus = g.seed.plus; halved = halved; h0_bits = number_bits h; close_least = g.close_least; close_most = g.close_most };
 }
 
+-- all of this at once, from the law of the source
+pub started : (seeds : ℕ → ℕ) (a : ℕ) (p : Operand) (t : ℕ) (v x o y0 : Value) (h : Number) → ((n : ℕ) → IsRadicand n → RootSeed 400 n (seeds n))
+    → p.significand.bits * 2 ^ p.exponent ≡ a * 2 ^ 23 → x ≡ held_at p.significand.bits p.exponent → o ≡ half
+    → IsRadicand t → t ≡ radicand_of p.significand.bits p.exponent → v ≡ plain (seeds t)
+    → y0.negative ≡ false → y0.units * 2 ^ ((p.exponent + 1) / 2) ≡ v.units * 2 ^ 75 → Halved y0 (number_value h)
+    → Begun seeds a x o y0 (number_value h)
+started seeds a p t v x o y0 h close ea ex eo range et ev plus placed halved = begun seeds a p x o y0 h (seeded seeds a p t v y0 ea et range ev (close t range) plus placed) ex eo halved
+
 -- each step is given, and its equation is that of the sheet
 module _ (seeds : ℕ → ℕ) (a : ℕ) (x o y0 h0 : Value) (g : Begun seeds a x o y0 h0) where
   pub need_s0 : is_ok (fused 30 Plus (plain 0) x y0) ≡ true

@@ -1,5 +1,5 @@
 use Rattle.std.proofs.Common.{arith}
-use Rattle.registers.specs.Values.{value, number_value}
+use Rattle.registers.specs.Values.{number_value}
 use Rattle.sheets.specs.Operands.{units_of}
 use Rattle.sheets.proofs.Placing.{reciprocal_moderate}
 use Rattle.sheets.proofs.Scales.{rounds_alike}
@@ -17,37 +17,25 @@ placed-requires g c =
 
 pub line-e0-requires : goal.line-e0-requires
 line-e0-requires g c =
-    let q = c.from-divisor.result in
-    let seeds = g.S.Source.reciprocals c.args.source.now in
-    let close = g.met.S.Source.reciprocals_close c.args.source.now q.significand.bits q.significand.range in
-    let s = begun seeds (units_of c.args.a) (units_of c.args.b) c.from-dividend.result q (value c.from-x.result) (value c.from-d.result) (value c.power-one.result) c.reciprocal-seed.result c.placed.result c.from-dividend.ensures c.from-divisor.ensures c.from-x.ensures c.from-d.ensures c.power-one.ensures c.reciprocal-seed.ensures close c.placed.ensures.plus c.placed.ensures.exact in
+    let s = begun _ (units_of c.args.a) (units_of c.args.b) c.from-dividend.result c.from-divisor.result _ _ _ c.reciprocal-seed.result c.placed.result c.from-dividend.ensures c.from-divisor.ensures c.from-x.ensures c.from-d.ensures c.power-one.ensures c.reciprocal-seed.ensures (g.met.S.Source.reciprocals_close c.args.source.now) c.placed.ensures.plus c.placed.ensures.exact in
     sum_given 30 c.residual.ensures (need_e0 _ _ _ _ _ _ _ s)
 
 pub line-e1-requires : goal.line-e1-requires
 line-e1-requires g c =
-    let q = c.from-divisor.result in
-    let seeds = g.S.Source.reciprocals c.args.source.now in
-    let close = g.met.S.Source.reciprocals_close c.args.source.now q.significand.bits q.significand.range in
-    let s = begun seeds (units_of c.args.a) (units_of c.args.b) c.from-dividend.result q (value c.from-x.result) (value c.from-d.result) (value c.power-one.result) c.reciprocal-seed.result c.placed.result c.from-dividend.ensures c.from-divisor.ensures c.from-x.ensures c.from-d.ensures c.power-one.ensures c.reciprocal-seed.ensures close c.placed.ensures.plus c.placed.ensures.exact in
+    let s = begun _ (units_of c.args.a) (units_of c.args.b) c.from-dividend.result c.from-divisor.result _ _ _ c.reciprocal-seed.result c.placed.result c.from-dividend.ensures c.from-divisor.ensures c.from-x.ensures c.from-d.ensures c.power-one.ensures c.reciprocal-seed.ensures (g.met.S.Source.reciprocals_close c.args.source.now) c.placed.ensures.plus c.placed.ensures.exact in
     let e0_is = sum_is 30 c.residual.ensures c.line-e0.ensures in
     sum_given 30 c.improved.ensures (need_e1 _ _ _ _ _ _ _ s _ e0_is)
 
 pub line-y1-requires : goal.line-y1-requires
 line-y1-requires g c =
-    let q = c.from-divisor.result in
-    let seeds = g.S.Source.reciprocals c.args.source.now in
-    let close = g.met.S.Source.reciprocals_close c.args.source.now q.significand.bits q.significand.range in
-    let s = begun seeds (units_of c.args.a) (units_of c.args.b) c.from-dividend.result q (value c.from-x.result) (value c.from-d.result) (value c.power-one.result) c.reciprocal-seed.result c.placed.result c.from-dividend.ensures c.from-divisor.ensures c.from-x.ensures c.from-d.ensures c.power-one.ensures c.reciprocal-seed.ensures close c.placed.ensures.plus c.placed.ensures.exact in
+    let s = begun _ (units_of c.args.a) (units_of c.args.b) c.from-dividend.result c.from-divisor.result _ _ _ c.reciprocal-seed.result c.placed.result c.from-dividend.ensures c.from-divisor.ensures c.from-x.ensures c.from-d.ensures c.power-one.ensures c.reciprocal-seed.ensures (g.met.S.Source.reciprocals_close c.args.source.now) c.placed.ensures.plus c.placed.ensures.exact in
     let e0_is = sum_is 30 c.residual.ensures c.line-e0.ensures in
     let e1_is = sum_is 30 c.improved.ensures c.line-e1.ensures in
     sum_given 30 c.improved-2.ensures (need_y1 _ _ _ _ _ _ _ s _ e0_is _ e1_is)
 
 pub line-q1-requires : goal.line-q1-requires
 line-q1-requires g c =
-    let q = c.from-divisor.result in
-    let seeds = g.S.Source.reciprocals c.args.source.now in
-    let close = g.met.S.Source.reciprocals_close c.args.source.now q.significand.bits q.significand.range in
-    let s = begun seeds (units_of c.args.a) (units_of c.args.b) c.from-dividend.result q (value c.from-x.result) (value c.from-d.result) (value c.power-one.result) c.reciprocal-seed.result c.placed.result c.from-dividend.ensures c.from-divisor.ensures c.from-x.ensures c.from-d.ensures c.power-one.ensures c.reciprocal-seed.ensures close c.placed.ensures.plus c.placed.ensures.exact in
+    let s = begun _ (units_of c.args.a) (units_of c.args.b) c.from-dividend.result c.from-divisor.result _ _ _ c.reciprocal-seed.result c.placed.result c.from-dividend.ensures c.from-divisor.ensures c.from-x.ensures c.from-d.ensures c.power-one.ensures c.reciprocal-seed.ensures (g.met.S.Source.reciprocals_close c.args.source.now) c.placed.ensures.plus c.placed.ensures.exact in
     let e0_is = sum_is 30 c.residual.ensures c.line-e0.ensures in
     let e1_is = sum_is 30 c.improved.ensures c.line-e1.ensures in
     let y1_is = sum_is 30 c.improved-2.ensures c.line-y1.ensures in
@@ -55,10 +43,7 @@ line-q1-requires g c =
 
 pub line-r1-requires : goal.line-r1-requires
 line-r1-requires g c =
-    let q = c.from-divisor.result in
-    let seeds = g.S.Source.reciprocals c.args.source.now in
-    let close = g.met.S.Source.reciprocals_close c.args.source.now q.significand.bits q.significand.range in
-    let s = begun seeds (units_of c.args.a) (units_of c.args.b) c.from-dividend.result q (value c.from-x.result) (value c.from-d.result) (value c.power-one.result) c.reciprocal-seed.result c.placed.result c.from-dividend.ensures c.from-divisor.ensures c.from-x.ensures c.from-d.ensures c.power-one.ensures c.reciprocal-seed.ensures close c.placed.ensures.plus c.placed.ensures.exact in
+    let s = begun _ (units_of c.args.a) (units_of c.args.b) c.from-dividend.result c.from-divisor.result _ _ _ c.reciprocal-seed.result c.placed.result c.from-dividend.ensures c.from-divisor.ensures c.from-x.ensures c.from-d.ensures c.power-one.ensures c.reciprocal-seed.ensures (g.met.S.Source.reciprocals_close c.args.source.now) c.placed.ensures.plus c.placed.ensures.exact in
     let e0_is = sum_is 30 c.residual.ensures c.line-e0.ensures in
     let e1_is = sum_is 30 c.improved.ensures c.line-e1.ensures in
     let y1_is = sum_is 30 c.improved-2.ensures c.line-y1.ensures in
@@ -67,10 +52,7 @@ line-r1-requires g c =
 
 pub invariant_of-result : goal.invariant_of-result
 invariant_of-result g c =
-    let q = c.from-divisor.result in
-    let seeds = g.S.Source.reciprocals c.args.source.now in
-    let close = g.met.S.Source.reciprocals_close c.args.source.now q.significand.bits q.significand.range in
-    let s = begun seeds (units_of c.args.a) (units_of c.args.b) c.from-dividend.result q (value c.from-x.result) (value c.from-d.result) (value c.power-one.result) c.reciprocal-seed.result c.placed.result c.from-dividend.ensures c.from-divisor.ensures c.from-x.ensures c.from-d.ensures c.power-one.ensures c.reciprocal-seed.ensures close c.placed.ensures.plus c.placed.ensures.exact in
+    let s = begun _ (units_of c.args.a) (units_of c.args.b) c.from-dividend.result c.from-divisor.result _ _ _ c.reciprocal-seed.result c.placed.result c.from-dividend.ensures c.from-divisor.ensures c.from-x.ensures c.from-d.ensures c.power-one.ensures c.reciprocal-seed.ensures (g.met.S.Source.reciprocals_close c.args.source.now) c.placed.ensures.plus c.placed.ensures.exact in
     let e0_is = sum_is 30 c.residual.ensures c.line-e0.ensures in
     let e1_is = sum_is 30 c.improved.ensures c.line-e1.ensures in
     let y1_is = sum_is 30 c.improved-2.ensures c.line-y1.ensures in
@@ -80,10 +62,7 @@ invariant_of-result g c =
 
 pub returns : goal.returns
 returns g c =
-    let q = c.from-divisor.result in
-    let seeds = g.S.Source.reciprocals c.args.source.now in
-    let close = g.met.S.Source.reciprocals_close c.args.source.now q.significand.bits q.significand.range in
-    let s = begun seeds (units_of c.args.a) (units_of c.args.b) c.from-dividend.result q (value c.from-x.result) (value c.from-d.result) (value c.power-one.result) c.reciprocal-seed.result c.placed.result c.from-dividend.ensures c.from-divisor.ensures c.from-x.ensures c.from-d.ensures c.power-one.ensures c.reciprocal-seed.ensures close c.placed.ensures.plus c.placed.ensures.exact in
+    let s = begun _ (units_of c.args.a) (units_of c.args.b) c.from-dividend.result c.from-divisor.result _ _ _ c.reciprocal-seed.result c.placed.result c.from-dividend.ensures c.from-divisor.ensures c.from-x.ensures c.from-d.ensures c.power-one.ensures c.reciprocal-seed.ensures (g.met.S.Source.reciprocals_close c.args.source.now) c.placed.ensures.plus c.placed.ensures.exact in
     let e0_is = sum_is 30 c.residual.ensures c.line-e0.ensures in
     let e1_is = sum_is 30 c.improved.ensures c.line-e1.ensures in
     let y1_is = sum_is 30 c.improved-2.ensures c.line-y1.ensures in

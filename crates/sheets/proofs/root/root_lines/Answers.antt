@@ -1,10 +1,10 @@
 use Rattle.std.proofs.Common.{arith}
-use Rattle.registers.specs.Values.{value, number_value}
+use Rattle.registers.specs.Values.{number_value}
 use Rattle.sheets.specs.Operands.{units_of}
 use Rattle.sheets.proofs.Placing.{root_moderate}
 use Rattle.sheets.proofs.Scales.{rounds_alike}
 use Rattle.sheets.proofs.Stepped.{sum_given, sum_is}
-use Rattle.sheets.proofs.RootWorked.{seeded, seed_moderate, begun, need_s0, need_d0, need_h1, need_s1, need_d1, need_e1, need_s2, need_h2, need_e2, worked, some, same_side}
+use Rattle.sheets.proofs.RootWorked.{seeded, seed_moderate, started, need_s0, need_d0, need_h1, need_s1, need_d1, need_e1, need_s2, need_h2, need_e2, worked, some, same_side}
 use Rattle.sheets.proofs.root.root_lines.Goals as goal
 
 pub placed-y-requires : goal.placed-y-requires
@@ -27,57 +27,32 @@ halved-requires g c =
 
 pub line-s0-requires : goal.line-s0-requires
 line-s0-requires g c =
-    let p = c.from-form.result in
-    let t = c.from-radicand.result in
-    let seeds = g.S.Source.roots c.args.source.now in
-    let close = g.met.S.Source.roots_close c.args.source.now t.bits t.range in
-    let r = seeded seeds (units_of c.args.a) p t.bits (number_value c.root-seed.result) (number_value c.placed-y.result) c.from-form.ensures c.from-radicand.ensures t.range c.root-seed.ensures close c.placed-y.ensures.plus c.placed-y.ensures.exact in
-    let s = begun seeds (units_of c.args.a) p (value c.from-x.result) (value c.power-half.result) (number_value c.placed-y.result) c.halved.result r c.from-x.ensures c.power-half.ensures c.halved.ensures in
+    let s = started _ (units_of c.args.a) c.from-form.result c.from-radicand.result.bits _ _ _ (number_value c.placed-y.result) c.halved.result (g.met.S.Source.roots_close c.args.source.now) c.from-form.ensures c.from-x.ensures c.power-half.ensures c.from-radicand.result.range c.from-radicand.ensures c.root-seed.ensures c.placed-y.ensures.plus c.placed-y.ensures.exact c.halved.ensures in
     sum_given 30 c.product.ensures (need_s0 _ _ _ _ _ _ s)
 
 pub line-d0-requires : goal.line-d0-requires
 line-d0-requires g c =
-    let p = c.from-form.result in
-    let t = c.from-radicand.result in
-    let seeds = g.S.Source.roots c.args.source.now in
-    let close = g.met.S.Source.roots_close c.args.source.now t.bits t.range in
-    let r = seeded seeds (units_of c.args.a) p t.bits (number_value c.root-seed.result) (number_value c.placed-y.result) c.from-form.ensures c.from-radicand.ensures t.range c.root-seed.ensures close c.placed-y.ensures.plus c.placed-y.ensures.exact in
-    let s = begun seeds (units_of c.args.a) p (value c.from-x.result) (value c.power-half.result) (number_value c.placed-y.result) c.halved.result r c.from-x.ensures c.power-half.ensures c.halved.ensures in
+    let s = started _ (units_of c.args.a) c.from-form.result c.from-radicand.result.bits _ _ _ (number_value c.placed-y.result) c.halved.result (g.met.S.Source.roots_close c.args.source.now) c.from-form.ensures c.from-x.ensures c.power-half.ensures c.from-radicand.result.range c.from-radicand.ensures c.root-seed.ensures c.placed-y.ensures.plus c.placed-y.ensures.exact c.halved.ensures in
     let s0_is = sum_is 30 c.product.ensures c.line-s0.ensures in
     sum_given 30 c.residual.ensures (need_d0 _ _ _ _ _ _ s _ s0_is)
 
 pub line-h1-requires : goal.line-h1-requires
 line-h1-requires g c =
-    let p = c.from-form.result in
-    let t = c.from-radicand.result in
-    let seeds = g.S.Source.roots c.args.source.now in
-    let close = g.met.S.Source.roots_close c.args.source.now t.bits t.range in
-    let r = seeded seeds (units_of c.args.a) p t.bits (number_value c.root-seed.result) (number_value c.placed-y.result) c.from-form.ensures c.from-radicand.ensures t.range c.root-seed.ensures close c.placed-y.ensures.plus c.placed-y.ensures.exact in
-    let s = begun seeds (units_of c.args.a) p (value c.from-x.result) (value c.power-half.result) (number_value c.placed-y.result) c.halved.result r c.from-x.ensures c.power-half.ensures c.halved.ensures in
+    let s = started _ (units_of c.args.a) c.from-form.result c.from-radicand.result.bits _ _ _ (number_value c.placed-y.result) c.halved.result (g.met.S.Source.roots_close c.args.source.now) c.from-form.ensures c.from-x.ensures c.power-half.ensures c.from-radicand.result.range c.from-radicand.ensures c.root-seed.ensures c.placed-y.ensures.plus c.placed-y.ensures.exact c.halved.ensures in
     let s0_is = sum_is 30 c.product.ensures c.line-s0.ensures in
     let d0_is = sum_is 30 c.residual.ensures c.line-d0.ensures in
     sum_given 30 c.improved.ensures (need_h1 _ _ _ _ _ _ s _ s0_is _ d0_is)
 
 pub line-s1-requires : goal.line-s1-requires
 line-s1-requires g c =
-    let p = c.from-form.result in
-    let t = c.from-radicand.result in
-    let seeds = g.S.Source.roots c.args.source.now in
-    let close = g.met.S.Source.roots_close c.args.source.now t.bits t.range in
-    let r = seeded seeds (units_of c.args.a) p t.bits (number_value c.root-seed.result) (number_value c.placed-y.result) c.from-form.ensures c.from-radicand.ensures t.range c.root-seed.ensures close c.placed-y.ensures.plus c.placed-y.ensures.exact in
-    let s = begun seeds (units_of c.args.a) p (value c.from-x.result) (value c.power-half.result) (number_value c.placed-y.result) c.halved.result r c.from-x.ensures c.power-half.ensures c.halved.ensures in
+    let s = started _ (units_of c.args.a) c.from-form.result c.from-radicand.result.bits _ _ _ (number_value c.placed-y.result) c.halved.result (g.met.S.Source.roots_close c.args.source.now) c.from-form.ensures c.from-x.ensures c.power-half.ensures c.from-radicand.result.range c.from-radicand.ensures c.root-seed.ensures c.placed-y.ensures.plus c.placed-y.ensures.exact c.halved.ensures in
     let s0_is = sum_is 30 c.product.ensures c.line-s0.ensures in
     let d0_is = sum_is 30 c.residual.ensures c.line-d0.ensures in
     sum_given 30 c.improved-2.ensures (need_s1 _ _ _ _ _ _ s _ s0_is _ d0_is)
 
 pub line-d1-requires : goal.line-d1-requires
 line-d1-requires g c =
-    let p = c.from-form.result in
-    let t = c.from-radicand.result in
-    let seeds = g.S.Source.roots c.args.source.now in
-    let close = g.met.S.Source.roots_close c.args.source.now t.bits t.range in
-    let r = seeded seeds (units_of c.args.a) p t.bits (number_value c.root-seed.result) (number_value c.placed-y.result) c.from-form.ensures c.from-radicand.ensures t.range c.root-seed.ensures close c.placed-y.ensures.plus c.placed-y.ensures.exact in
-    let s = begun seeds (units_of c.args.a) p (value c.from-x.result) (value c.power-half.result) (number_value c.placed-y.result) c.halved.result r c.from-x.ensures c.power-half.ensures c.halved.ensures in
+    let s = started _ (units_of c.args.a) c.from-form.result c.from-radicand.result.bits _ _ _ (number_value c.placed-y.result) c.halved.result (g.met.S.Source.roots_close c.args.source.now) c.from-form.ensures c.from-x.ensures c.power-half.ensures c.from-radicand.result.range c.from-radicand.ensures c.root-seed.ensures c.placed-y.ensures.plus c.placed-y.ensures.exact c.halved.ensures in
     let s0_is = sum_is 30 c.product.ensures c.line-s0.ensures in
     let d0_is = sum_is 30 c.residual.ensures c.line-d0.ensures in
     let h1_is = sum_is 30 c.improved.ensures c.line-h1.ensures in
@@ -86,12 +61,7 @@ line-d1-requires g c =
 
 pub line-e1-requires : goal.line-e1-requires
 line-e1-requires g c =
-    let p = c.from-form.result in
-    let t = c.from-radicand.result in
-    let seeds = g.S.Source.roots c.args.source.now in
-    let close = g.met.S.Source.roots_close c.args.source.now t.bits t.range in
-    let r = seeded seeds (units_of c.args.a) p t.bits (number_value c.root-seed.result) (number_value c.placed-y.result) c.from-form.ensures c.from-radicand.ensures t.range c.root-seed.ensures close c.placed-y.ensures.plus c.placed-y.ensures.exact in
-    let s = begun seeds (units_of c.args.a) p (value c.from-x.result) (value c.power-half.result) (number_value c.placed-y.result) c.halved.result r c.from-x.ensures c.power-half.ensures c.halved.ensures in
+    let s = started _ (units_of c.args.a) c.from-form.result c.from-radicand.result.bits _ _ _ (number_value c.placed-y.result) c.halved.result (g.met.S.Source.roots_close c.args.source.now) c.from-form.ensures c.from-x.ensures c.power-half.ensures c.from-radicand.result.range c.from-radicand.ensures c.root-seed.ensures c.placed-y.ensures.plus c.placed-y.ensures.exact c.halved.ensures in
     let s0_is = sum_is 30 c.product.ensures c.line-s0.ensures in
     let d0_is = sum_is 30 c.residual.ensures c.line-d0.ensures in
     let h1_is = sum_is 30 c.improved.ensures c.line-h1.ensures in
@@ -100,12 +70,7 @@ line-e1-requires g c =
 
 pub line-s2-requires : goal.line-s2-requires
 line-s2-requires g c =
-    let p = c.from-form.result in
-    let t = c.from-radicand.result in
-    let seeds = g.S.Source.roots c.args.source.now in
-    let close = g.met.S.Source.roots_close c.args.source.now t.bits t.range in
-    let r = seeded seeds (units_of c.args.a) p t.bits (number_value c.root-seed.result) (number_value c.placed-y.result) c.from-form.ensures c.from-radicand.ensures t.range c.root-seed.ensures close c.placed-y.ensures.plus c.placed-y.ensures.exact in
-    let s = begun seeds (units_of c.args.a) p (value c.from-x.result) (value c.power-half.result) (number_value c.placed-y.result) c.halved.result r c.from-x.ensures c.power-half.ensures c.halved.ensures in
+    let s = started _ (units_of c.args.a) c.from-form.result c.from-radicand.result.bits _ _ _ (number_value c.placed-y.result) c.halved.result (g.met.S.Source.roots_close c.args.source.now) c.from-form.ensures c.from-x.ensures c.power-half.ensures c.from-radicand.result.range c.from-radicand.ensures c.root-seed.ensures c.placed-y.ensures.plus c.placed-y.ensures.exact c.halved.ensures in
     let s0_is = sum_is 30 c.product.ensures c.line-s0.ensures in
     let d0_is = sum_is 30 c.residual.ensures c.line-d0.ensures in
     let h1_is = sum_is 30 c.improved.ensures c.line-h1.ensures in
@@ -116,12 +81,7 @@ line-s2-requires g c =
 
 pub line-h2-requires : goal.line-h2-requires
 line-h2-requires g c =
-    let p = c.from-form.result in
-    let t = c.from-radicand.result in
-    let seeds = g.S.Source.roots c.args.source.now in
-    let close = g.met.S.Source.roots_close c.args.source.now t.bits t.range in
-    let r = seeded seeds (units_of c.args.a) p t.bits (number_value c.root-seed.result) (number_value c.placed-y.result) c.from-form.ensures c.from-radicand.ensures t.range c.root-seed.ensures close c.placed-y.ensures.plus c.placed-y.ensures.exact in
-    let s = begun seeds (units_of c.args.a) p (value c.from-x.result) (value c.power-half.result) (number_value c.placed-y.result) c.halved.result r c.from-x.ensures c.power-half.ensures c.halved.ensures in
+    let s = started _ (units_of c.args.a) c.from-form.result c.from-radicand.result.bits _ _ _ (number_value c.placed-y.result) c.halved.result (g.met.S.Source.roots_close c.args.source.now) c.from-form.ensures c.from-x.ensures c.power-half.ensures c.from-radicand.result.range c.from-radicand.ensures c.root-seed.ensures c.placed-y.ensures.plus c.placed-y.ensures.exact c.halved.ensures in
     let s0_is = sum_is 30 c.product.ensures c.line-s0.ensures in
     let d0_is = sum_is 30 c.residual.ensures c.line-d0.ensures in
     let h1_is = sum_is 30 c.improved.ensures c.line-h1.ensures in
@@ -132,12 +92,7 @@ line-h2-requires g c =
 
 pub line-e2-requires : goal.line-e2-requires
 line-e2-requires g c =
-    let p = c.from-form.result in
-    let t = c.from-radicand.result in
-    let seeds = g.S.Source.roots c.args.source.now in
-    let close = g.met.S.Source.roots_close c.args.source.now t.bits t.range in
-    let r = seeded seeds (units_of c.args.a) p t.bits (number_value c.root-seed.result) (number_value c.placed-y.result) c.from-form.ensures c.from-radicand.ensures t.range c.root-seed.ensures close c.placed-y.ensures.plus c.placed-y.ensures.exact in
-    let s = begun seeds (units_of c.args.a) p (value c.from-x.result) (value c.power-half.result) (number_value c.placed-y.result) c.halved.result r c.from-x.ensures c.power-half.ensures c.halved.ensures in
+    let s = started _ (units_of c.args.a) c.from-form.result c.from-radicand.result.bits _ _ _ (number_value c.placed-y.result) c.halved.result (g.met.S.Source.roots_close c.args.source.now) c.from-form.ensures c.from-x.ensures c.power-half.ensures c.from-radicand.result.range c.from-radicand.ensures c.root-seed.ensures c.placed-y.ensures.plus c.placed-y.ensures.exact c.halved.ensures in
     let s0_is = sum_is 30 c.product.ensures c.line-s0.ensures in
     let d0_is = sum_is 30 c.residual.ensures c.line-d0.ensures in
     let h1_is = sum_is 30 c.improved.ensures c.line-h1.ensures in
@@ -150,12 +105,7 @@ line-e2-requires g c =
 
 pub invariant_of-result : goal.invariant_of-result
 invariant_of-result g c =
-    let p = c.from-form.result in
-    let t = c.from-radicand.result in
-    let seeds = g.S.Source.roots c.args.source.now in
-    let close = g.met.S.Source.roots_close c.args.source.now t.bits t.range in
-    let r = seeded seeds (units_of c.args.a) p t.bits (number_value c.root-seed.result) (number_value c.placed-y.result) c.from-form.ensures c.from-radicand.ensures t.range c.root-seed.ensures close c.placed-y.ensures.plus c.placed-y.ensures.exact in
-    let s = begun seeds (units_of c.args.a) p (value c.from-x.result) (value c.power-half.result) (number_value c.placed-y.result) c.halved.result r c.from-x.ensures c.power-half.ensures c.halved.ensures in
+    let s = started _ (units_of c.args.a) c.from-form.result c.from-radicand.result.bits _ _ _ (number_value c.placed-y.result) c.halved.result (g.met.S.Source.roots_close c.args.source.now) c.from-form.ensures c.from-x.ensures c.power-half.ensures c.from-radicand.result.range c.from-radicand.ensures c.root-seed.ensures c.placed-y.ensures.plus c.placed-y.ensures.exact c.halved.ensures in
     let s0_is = sum_is 30 c.product.ensures c.line-s0.ensures in
     let d0_is = sum_is 30 c.residual.ensures c.line-d0.ensures in
     let h1_is = sum_is 30 c.improved.ensures c.line-h1.ensures in
@@ -169,12 +119,7 @@ invariant_of-result g c =
 
 pub returns : goal.returns
 returns g c =
-    let p = c.from-form.result in
-    let t = c.from-radicand.result in
-    let seeds = g.S.Source.roots c.args.source.now in
-    let close = g.met.S.Source.roots_close c.args.source.now t.bits t.range in
-    let r = seeded seeds (units_of c.args.a) p t.bits (number_value c.root-seed.result) (number_value c.placed-y.result) c.from-form.ensures c.from-radicand.ensures t.range c.root-seed.ensures close c.placed-y.ensures.plus c.placed-y.ensures.exact in
-    let s = begun seeds (units_of c.args.a) p (value c.from-x.result) (value c.power-half.result) (number_value c.placed-y.result) c.halved.result r c.from-x.ensures c.power-half.ensures c.halved.ensures in
+    let s = started _ (units_of c.args.a) c.from-form.result c.from-radicand.result.bits _ _ _ (number_value c.placed-y.result) c.halved.result (g.met.S.Source.roots_close c.args.source.now) c.from-form.ensures c.from-x.ensures c.power-half.ensures c.from-radicand.result.range c.from-radicand.ensures c.root-seed.ensures c.placed-y.ensures.plus c.placed-y.ensures.exact c.halved.ensures in
     let s0_is = sum_is 30 c.product.ensures c.line-s0.ensures in
     let d0_is = sum_is 30 c.residual.ensures c.line-d0.ensures in
     let h1_is = sum_is 30 c.improved.ensures c.line-h1.ensures in
