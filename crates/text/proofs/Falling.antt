@@ -1,24 +1,17 @@
 -- The first byte 10 parts a text into its first line and the lines after it: by induction on the text.
-use Rattle.std.proofs.Common.{◌≡◌, ℕ, ◌+◌, ◌<◌, ◌≤◌, Bool, true, false, cond, eqb, List, [], ◌∷◌, length, get_or, take, drop, Some, None, sym, refl, ap, ◌∙◌, add-one, arith}
-use Rattle.std.proofs.lemmas.List.{at_drop_more, at_drop_all, drop_all, length-drop, take_all}
-use Rattle.std.proofs.lemmas.Bool.{cond-true, cond-false, eqb-false, ne_eqb}
-use Rattle.text.specs.Lines.{after_line, end, first_line, lines_from, lines_of, next_of, onto, rejoined, Shorter, until_end}
+use Rattle.std.proofs.Common.{◌≡◌, ℕ, ◌+◌, Bool, true, false, cond, not, List, [], ◌∷◌, length, take, drop, sym, refl, ap, ◌∙◌, add-one, arith}
+use Rattle.std.proofs.lemmas.Bool.{cond-false, ne_eqb}
+use Rattle.std.specs.List.{prefix_len}
+use Rattle.text.specs.Lines.{after_line, end, first_line, lines_from, lines_of, next_of, onto, rejoined, until_end}
 
-module _ (t : List ℕ) (i : ℕ) where
-  pub past_byte : i < length t → end (get_or t i 0) ≡ false → until_end (drop i t) ≡ until_end (drop (i + 1) t) + 1
-  past_byte h e = at_drop_more until_end t i 0 h ∙ cond-false _ _ _ e
+passed_by : (v : Bool) (m n : ℕ) → m ≡ n → cond v 0 (m + 1) ≡ cond (not v) (1 + n) 0
+passed_by true m n e = refl
+passed_by false m n e = omega arith
 
-  pub at_end : i < length t → end (get_or t i 0) ≡ true → until_end (drop i t) ≡ 0
-  at_end h e = at_drop_more until_end t i 0 h ∙ cond-true _ _ _ e
-
-  pub no_end : length t ≤ i → until_end (drop i t) ≡ 0
-  no_end h = at_drop_all until_end t i h
-
-pub unended : (t : List ℕ) (n : ℕ) → n ≡ until_end t → n ≡ length t → (take n t ≡ first_line t) × (drop n t ≡ after_line t)
-unended t n e whole = (
-  take_all n t (omega arith) ∙ sym (take_all (until_end t + 1) t (omega arith)),
-  drop_all n t (omega arith) ∙ sym (drop_all (until_end t + 1) t (omega arith)),
-)
+-- the bytes before the first byte 10 are those that are passed
+pub until_end_passed : (t : List ℕ) → until_end t ≡ prefix_len (λ (b : ℕ). not (end b)) t
+until_end_passed [] = refl
+until_end_passed (b ∷ bs) = passed_by (end b) (until_end bs) _ (until_end_passed bs)
 
 -- a text that begins with b, which ends a line or not
 lines_by : (v : Bool) (b : ℕ) (bs : List ℕ) →
@@ -36,14 +29,6 @@ lines_first b (c ∷ cs) = lines_by (end b) b (c ∷ cs) (ap (onto b) (lines_fir
 pub lines_next : (t : List ℕ) → lines_of t ≡ lines_from (next_of t)
 lines_next [] = refl
 lines_next (b ∷ bs) = lines_first b bs ∙ sym (ap lines_from (cond-false _ _ _ (ne_eqb (length (b ∷ bs)) 0 (λ e. absurd (omega (arith, e))))))
-
-shorter_by : (v : Bool) (t : List ℕ) → eqb (length t) 0 ≡ v → Shorter t (cond v None (Some (first_line t, after_line t)))
-shorter_by true t e = tt
-shorter_by false t e = let some = eqb-false (length t) 0 e in omega (arith, length-drop (until_end t + 1) t)
-
--- a line has a byte at least
-pub shorter_next : (t : List ℕ) → Shorter t (next_of t)
-shorter_next t = shorter_by (eqb (length t) 0) t refl
 
 rejoined_onto : (b : ℕ) (ls : List (List ℕ)) → rejoined (onto b ls) ≡ b ∷ rejoined ls
 rejoined_onto b [] = refl

@@ -1,11 +1,15 @@
 -- The number that a column of a plan line stands for.
-use Rattle.std.specs.Prelude.{ℕ, zero, suc, ◌+◌, ◌-◌, ◌*◌, ◌^◌, ◌<◌, Bool, cond, not, ◌&&◌, ◌||◌, List, [], ◌∷◌, length, drop, ℤ, pos, negsuc, Some, None, Ok, Err, Option, Result, ◌==◌, int_lt, nat_le, nat_lt, slice_index}
+use Rattle.std.specs.Prelude.{ℕ, zero, suc, ◌+◌, ◌-◌, ◌*◌, Bool, cond, not, ◌&&◌, ◌||◌, List, [], ◌∷◌, length, drop, ℤ, pos, negsuc, Some, None, Ok, Err, Option, Result, ◌==◌, int_lt, nat_le, nat_lt, slice_index}
 use Rattle.text.specs.declared.refusal.Cause.{Cause}
 use Rattle.text.specs.declared.refusal.Cause.TheVariants.{Digits, Range}
 
 -- a decimal digit
 abbrev pub digit : ℕ → Bool
 digit b = nat_le 48 b && nat_le b 57
+
+-- the number that a decimal digit stands for
+abbrev pub digit_of : ℕ → Option ℕ
+digit_of b = cond (digit b) (Some (b - 48)) None
 
 abbrev pub digits : List ℕ → Bool
 digits [] = Bool.true
@@ -64,8 +68,3 @@ judged (Some z) = narrowed z
 -- what a column stands for: a number, or what is wrong with it
 abbrev pub column_of : List ℕ → Result ℤ Cause
 column_of t = judged (wide_of t)
-
--- small enough for a signed 64-bit number
-abbrev pub Small : Option ℕ → Type 0
-Small None = Unit {0}
-Small (Some n) = n < 2 ^ 63

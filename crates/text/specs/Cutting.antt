@@ -22,9 +22,12 @@ abbrev pub seen : Result Line Fault → Result Parts Fault
 seen (Ok line) = Ok (parted line)
 seen (Err fault) = Err fault
 
+abbrev pub at_byte : ℕ → Cause → Fault
+at_byte byte cause = record { cause = cause; byte = byte }
+
 -- a fault of the whole line
 abbrev pub at_start : Cause → Fault
-at_start cause = record { cause = cause; byte = 0 }
+at_start cause = at_byte 0 cause
 
 -- column k of a line, from 0: 14 bytes after the letter
 abbrev pub column : ℕ → List ℕ → List ℕ
@@ -41,9 +44,11 @@ abbrev pub cut_tab : List ℕ → Result Parts Fault
 cut_tab line = cond (sized 2 line) (Ok (tab (column 0 line) (column 1 line))) (Err (at_start Length))
 
 -- a letter, at most 78 bytes and byte 10
+abbrev pub remark_sized : List ℕ → Bool
+remark_sized line = nat_le 2 (length line) && nat_le (length line) 80 && ended line
+
 abbrev pub cut_remark : List ℕ → Result Parts Fault
-cut_remark line =
-    cond (nat_le 2 (length line) && nat_le (length line) 80 && ended line) (Ok (remark (take (length line - 1 - 1) (drop 1 line)))) (Err (at_start Length))
+cut_remark line = cond (remark_sized line) (Ok (remark (take (length line - 1 - 1) (drop 1 line)))) (Err (at_start Length))
 
 -- the letters D, T and # are the bytes 68, 84 and 35
 abbrev pub cut_of : List ℕ → Result Parts Fault

@@ -1,13 +1,13 @@
 -- What a plan line says, or its fault.
-use Rattle.std.specs.Prelude.{ℕ, ◌+◌, Bool, cond, List, [], ◌∷◌, ℤ, pos, Some, None, Ok, Err, Option, Result, ◌==◌, nat_lt}
+use Rattle.std.specs.Prelude.{ℕ, ◌+◌, Bool, cond, List, [], ◌∷◌, map, ℤ, pos, Some, None, Ok, Err, Option, Result, ◌==◌, nat_lt}
 use Rattle.text.specs.declared.line.Entry.{Entry}
 use Rattle.text.specs.declared.line.Entry.TheVariants.{Datum, Tab, Remark}
 use Rattle.text.specs.declared.refusal.Cause.{Cause}
 use Rattle.text.specs.declared.refusal.Cause.TheVariants.{Count, Digits, Range}
 use Rattle.text.specs.declared.refusal.Fault.{Fault}
 use Rattle.text.specs.declared.refusal.Refusal.{Refusal}
-use Rattle.text.specs.Columns.{column_of, narrowed, wide_of}
-use Rattle.text.specs.Cutting.{Parts, datum, tab, remark, at_start, cut_of}
+use Rattle.text.specs.Columns.{column_of, narrowed}
+use Rattle.text.specs.Cutting.{Parts, datum, tab, remark, at_byte, at_start, cut_of}
 use Rattle.text.specs.Numbering.{bad_line, cause_number}
 
 -- whether a column has that cause
@@ -18,7 +18,7 @@ has cause (Err other) = cause_number cause == cause_number other
 -- the leftmost of some columns with that cause, where the first of them begins at that byte
 abbrev pub leftmost : Cause → ℕ → List (Result ℤ Cause) → Option Fault
 leftmost cause byte [] = None
-leftmost cause byte (r ∷ rs) = cond (has cause r) (Some (record { cause = cause; byte = byte })) (leftmost cause (byte + 14) rs)
+leftmost cause byte (r ∷ rs) = cond (has cause r) (Some (at_byte byte cause)) (leftmost cause (byte + 14) rs)
 
 abbrev pub or_else : Option Fault → Option Fault → Option Fault
 or_else (Some fault) other = Some fault
@@ -28,14 +28,18 @@ or_else None other = other
 abbrev pub fault_of : List (Result ℤ Cause) → Option Fault
 fault_of rs = or_else (leftmost Digits 1 rs) (leftmost Range 1 rs)
 
-abbrev pub unless : Option Fault → Entry → Result Entry Fault
-unless None entry = Ok entry
-unless (Some fault) entry = Err fault
+abbrev pub unless : {X : Type 0} → Option Fault → X → Result X Fault
+unless None x = Ok x
+unless (Some fault) x = Err fault
 
 -- the number in a good column
 abbrev pub number_of : Result ℤ Cause → ℤ
 number_of (Ok z) = z
 number_of (Err cause) = pos 0
+
+-- the numbers in some columns, or the fault of the leftmost bad one
+abbrev pub numbers_of : List (Result ℤ Cause) → Result (List ℤ) Fault
+numbers_of rs = unless (fault_of rs) (map number_of rs)
 
 abbrev pub datum_of : Result ℤ Cause → Result ℤ Cause → Result ℤ Cause → Result Entry Fault
 datum_of x y pitch = unless (fault_of (x ∷ y ∷ pitch ∷ [])) (Datum (number_of x) (number_of y) (number_of pitch))
@@ -68,27 +72,12 @@ judged_of number line = cond (nat_lt 999999 number) (Err (bad_line number (at_st
 
 -- the two halves of reading a column that begins at that byte
 abbrev pub digits_at : ℕ → Option ℤ → Result ℤ Fault
-digits_at byte None = Err (record { cause = Digits; byte = byte })
+digits_at byte None = Err (at_byte byte Digits)
 digits_at byte (Some z) = Ok z
 
 abbrev pub range_at : ℕ → Result ℤ Cause → Result ℤ Fault
 range_at byte (Ok z) = Ok z
-range_at byte (Err cause) = Err (record { cause = cause; byte = byte })
-
-abbrev pub wide_at : ℕ → List ℕ → Result ℤ Fault
-wide_at byte column = digits_at byte (wide_of column)
+range_at byte (Err cause) = Err (at_byte byte cause)
 
 abbrev pub narrow_at : ℕ → ℤ → Result ℤ Fault
 narrow_at byte z = range_at byte (narrowed z)
-
--- the columns of a datum read in two rounds
-abbrev pub datum_steps : List ℕ → List ℕ → List ℕ → Result Entry Fault
-datum_steps x y pitch =
-    then (wide_at 1 x) (λ a. then (wide_at 15 y) (λ b. then (wide_at 29 pitch) (λ c.
-    then (narrow_at 1 a) (λ k. then (narrow_at 15 b) (λ l. then (narrow_at 29 c) (λ m. Ok (Datum k l m)))))))
-
--- the columns of a tab read in two rounds
-abbrev pub tab_steps : List ℕ → List ℕ → Result Entry Fault
-tab_steps x y =
-    then (wide_at 1 x) (λ a. then (wide_at 15 y) (λ b.
-    then (narrow_at 1 a) (λ k. then (narrow_at 15 b) (λ l. Ok (Tab k l)))))

@@ -1,5 +1,6 @@
 -- How a text falls into lines. A line ends with byte 10; the last may lack it.
 use Rattle.std.specs.Prelude.{ℕ, ◌+◌, ◌<◌, Bool, cond, List, [], ◌∷◌, ◌++◌, length, take, drop, Some, None, Option, ◌==◌}
+use Rattle.text.specs.declared.next.Lines.{Lines}
 use Rattle.text.specs.declared.next.Next.{Next}
 
 abbrev pub end : ℕ → Bool
@@ -52,3 +53,7 @@ lines_from (Some p) = p.0 ∷ lines_of p.1
 abbrev pub Shorter : List ℕ → Option (List ℕ × List ℕ) → Type 0
 Shorter text None = Unit {0}
 Shorter text (Some p) = length p.1 < length text
+
+-- the lines that an iterator has left
+abbrev pub lines_left : Lines → List (List ℕ)
+lines_left lines = lines_of lines.rest.now

@@ -1,46 +1,52 @@
 //! Reading a column of a plan line: 14 bytes, a whole number after blanks.
 
-ghost use Rattle.std.specs.Prelude.{◌≡◌, ◌+◌, ◌<◌, ◌≤◌, length, drop};
+ghost use Rattle.std.specs.Prelude.{◌≡◌, ◌≤◌, length};
 ghost use Rattle.text.specs.Standing.{ReadAs};
-ghost use Rattle.text.specs.Columns.{after_blanks, blank, column_of, digit, narrowed, needed, negated, signed_of, Small, unsigned, whole_of, wide_of};
+ghost use Rattle.text.specs.Columns.{after_blanks, blank, column_of, digit_of, narrowed, needed, signed_of, unsigned, whole_of, wide_of};
 
-use crate::part::part_from;
 use crate::refusal::Cause;
 
 /// The length of a column.
 pub const WIDTH: usize = 14;
 
-/// Whether the byte is a decimal digit.
-fn is_digit(byte: u8) -> bool
-    ensures { result ≡ digit byte }
+/// The bytes of a column.
+pub type Column = [u8; WIDTH];
+
+/// The number that a decimal digit stands for.
+fn digit(byte: u8) -> Option<u64>
+    ensures { result ≡ digit_of byte }
 {
-    byte >= b'0' && byte <= b'9'
+    if byte.is_ascii_digit() {
+        Some(u64::from(byte - b'0'))
+    } else {
+        None
+    }
 }
 
 /// Whether there is a byte, and no zero before another byte.
 fn is_needed(digits: &[u8]) -> bool
     ensures { result ≡ needed digits.now }
 {
-    digits.len() == 1 || digits.len() > 1 && digits[0] != b'0'
+    match digits {
+        [] => false,
+        [_] => true,
+        [first, ..] => *first != b'0',
+    }
 }
 
 /// The number that digits write.
-fn whole(digits: &[u8]) -> Option<u64>
+fn whole(digits: &[u8]) -> Option<i64>
     requires { length digits.now ≤ 14 }
-    ensures value { result ≡ whole_of digits.now }
-    ensures small { Small result }
+    ensures { result ≡ unsigned (whole_of digits.now) }
 {
     if !is_needed(digits) {
         return None;
     }
     let mut n: u64 = 0;
-    for b in digits {
-        if !is_digit(*b) {
-            return None;
-        }
-        n = n * 10 + (*b - b'0') as u64;
+    for byte in digits {
+        n = n * 10 + digit(*byte)?;
     }
-    Some(n)
+    Some(n as i64)
 }
 
 /// Whether the byte is a blank.
@@ -50,53 +56,27 @@ fn is_blank(byte: u8) -> bool
     byte == b' '
 }
 
-/// How many blanks stand at the front.
-fn blanks(text: &[u8]) -> usize
-    ensures bound { result ≤ length text.now }
-    ensures rest { drop result text.now ≡ after_blanks text.now }
+/// What stands after the blanks at the front.
+fn after_blanks(text: &[u8]) -> &[u8]
+    ensures value { result.now ≡ after_blanks text.now }
+    ensures short { length result.now ≤ length text.now }
 {
-    let mut n = 0;
-    while n < text.len() && is_blank(text[n]) {
-        n += 1;
-    }
-    n
+    let blanks = text.iter().take_while(|byte| is_blank(**byte)).count();
+    &text[blanks..]
 }
 
-/// The number after a plus or no sign.
-fn plain(n: Option<u64>) -> Option<i64>
-    requires { Small n }
-    ensures { result ≡ unsigned n }
-{
-    match n {
-        Some(n) => Some(n as i64),
-        None => None,
-    }
-}
-
-/// The number after a minus, which zero has not.
-fn minus(n: Option<u64>) -> Option<i64>
-    requires { Small n }
-    ensures { result ≡ negated n }
-{
-    match n {
-        Some(0) => None,
-        Some(n) => Some(-(n as i64)),
-        None => None,
-    }
-}
-
-/// The number that a sign or none and digits write.
+/// The number that a sign or none and digits write; after a minus it is not zero.
 fn signed(text: &[u8]) -> Option<i64>
     requires { length text.now ≤ 14 }
     ensures { result ≡ signed_of text.now }
 {
-    if text.len() == 0 {
-        return None;
-    }
-    match char::from(text[0]) {
-        '-' => minus(whole(part_from(text, 1))),
-        '+' => plain(whole(part_from(text, 1))),
-        _ => plain(whole(text)),
+    match text {
+        [b'-', digits @ ..] => match whole(digits)? {
+            0 => None,
+            n => Some(-n),
+        },
+        [b'+', digits @ ..] => whole(digits),
+        _ => whole(text),
     }
 }
 
@@ -107,27 +87,14 @@ pub(crate) fn wide(column: &[u8]) -> Option<i64>
     if column.len() != WIDTH {
         return None;
     }
-    signed(part_from(column, blanks(column)))
+    signed(after_blanks(column))
 }
 
 /// The same number in 32 bits, or `Cause::Range`.
 pub(crate) fn narrow(n: i64) -> Result<i32, Cause>
     ensures { result ≡ narrowed n }
 {
-    if n < i32::MIN as i64 || n > i32::MAX as i64 {
-        return Err(Cause::Range);
-    }
-    Ok(n as i32)
-}
-
-/// The number that a column writes in 32 bits, or what is wrong with it.
-fn judge_column(column: &[u8]) -> Result<i32, Cause>
-    ensures { result ≡ column_of column.now }
-{
-    match wide(column) {
-        Some(n) => narrow(n),
-        None => Err(Cause::Digits),
-    }
+    i32::try_from(n).map_err(|_| Cause::Range)
 }
 
 /// The number that a column of 14 bytes writes: `Cause::Digits` where it writes none, `Cause::Range` where it has more than 32 bits.
@@ -135,5 +102,5 @@ pub fn read_column(column: &[u8]) -> Result<i32, Cause>
     ensures value { result ≡ column_of column.now }
     ensures meaning { ReadAs column.now result }
 {
-    judge_column(column)
+    wide(column).ok_or(Cause::Digits).and_then(narrow)
 }

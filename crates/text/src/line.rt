@@ -1,10 +1,11 @@
 //! Cutting a plan line into its columns, and reading them.
 
-ghost use Rattle.std.specs.Prelude.{◌≡◌};
-ghost use Rattle.text.specs.Cutting.{at_start, cut_datum, cut_of, cut_remark, cut_tab, parted, seen};
-ghost use Rattle.text.specs.Judging.{datum_steps, entry_of, judged_of, line_of, narrow_at, tab_steps, wide_at};
+ghost use Rattle.std.specs.Prelude.{◌≡◌, ◌+◌, ◌*◌, ◌≤◌, length, map};
+ghost use Rattle.text.specs.Columns.{judged};
+ghost use Rattle.text.specs.Cutting.{at_byte, at_start, column, cut_of, parted, remark_sized, seen, sized};
+ghost use Rattle.text.specs.Judging.{digits_at, entry_of, judged_of, line_of, narrow_at, numbers_of};
 
-use crate::column::{narrow, wide};
+use crate::column::{WIDTH, narrow, wide};
 use crate::next::is_ended;
 use crate::refusal::{Cause, Fault, Refusal};
 
@@ -24,6 +25,7 @@ pub enum Line<'a> {
 }
 
 /// What a plan line says: its letter and the numbers in its columns.
+// Not one generic enum with `Line`: an entry keeps nothing of a remark, so each use of it would have to write `Remark(())`.
 #[derive(Clone, Copy, PartialEq, Eq, Debug)]
 pub enum Entry {
     Datum { x: i32, y: i32, pitch: i32 },
@@ -34,12 +36,35 @@ pub enum Entry {
 /// The most lines that a plan has.
 pub const MOST_LINES: u32 = 999_999;
 
-/// The byte at which each column begins.
-const X: u32 = 1;
+/// The byte at which column `k` of a line begins, counted from 0: after the letter and the columns before it.
+fn byte_of(k: u8) -> usize
+    ensures { result ≡ 1 + 14 * k }
+{
+    1 + WIDTH * usize::from(k)
+}
 
-const Y: u32 = 15;
+/// Column `k` of a line.
+fn column(line: &[u8], k: u8) -> &[u8]
+    requires { 15 + 14 * k ≤ length line.now }
+    ensures { result.now ≡ column k line.now }
+{
+    let byte = byte_of(k);
+    &line[byte..byte + WIDTH]
+}
 
-const PITCH: u32 = 29;
+/// Whether a line is a letter, that many columns and byte 10.
+fn is_sized(line: &[u8], columns: u8) -> bool
+    ensures { result ≡ sized columns line.now }
+{
+    line.len() == byte_of(columns) + 1 && is_ended(line)
+}
+
+/// Whether a line is a letter, at most 78 bytes and byte 10.
+fn is_remark(line: &[u8]) -> bool
+    ensures { result ≡ remark_sized line.now }
+{
+    (2..=80).contains(&line.len()) && is_ended(line)
+}
 
 /// A fault of the whole line.
 fn at_start(cause: Cause) -> Fault
@@ -48,103 +73,65 @@ fn at_start(cause: Cause) -> Fault
     Fault { cause, byte: 0 }
 }
 
-/// A line that begins with `D`.
-fn cut_datum(line: &[u8]) -> Result<Line<'_>, Fault>
-    ensures { seen result ≡ cut_datum line.now }
-{
-    if line.len() != 44 || !is_ended(line) {
-        return Err(at_start(Cause::Length));
-    }
-    Ok(Line::Datum {
-        x: &line[1..15],
-        y: &line[15..29],
-        pitch: &line[29..43],
-    })
-}
-
-/// A line that begins with `T`.
-fn cut_tab(line: &[u8]) -> Result<Line<'_>, Fault>
-    ensures { seen result ≡ cut_tab line.now }
-{
-    if line.len() != 30 || !is_ended(line) {
-        return Err(at_start(Cause::Length));
-    }
-    Ok(Line::Tab {
-        x: &line[1..15],
-        y: &line[15..29],
-    })
-}
-
-/// A line that begins with `#`.
-fn cut_remark(line: &[u8]) -> Result<Line<'_>, Fault>
-    ensures { seen result ≡ cut_remark line.now }
-{
-    if line.len() < 2 || line.len() > 80 || !is_ended(line) {
-        return Err(at_start(Cause::Length));
-    }
-    Ok(Line::Remark(&line[1..line.len() - 1]))
-}
-
 /// A line with its byte 10, cut into its columns: `Cause::Letter` or `Cause::Length` where it cannot be.
 pub fn cut_line(line: &[u8]) -> Result<Line<'_>, Fault>
     ensures { seen result ≡ cut_of line.now }
 {
-    if line.len() == 0 {
-        return Err(at_start(Cause::Letter));
-    }
-    match char::from(line[0]) {
-        'D' => cut_datum(line),
-        'T' => cut_tab(line),
-        '#' => cut_remark(line),
+    match line.first().map(|byte| char::from(*byte)) {
+        Some('D') if is_sized(line, 3) => Ok(Line::Datum {
+            x: column(line, 0),
+            y: column(line, 1),
+            pitch: column(line, 2),
+        }),
+        Some('T') if is_sized(line, 2) => Ok(Line::Tab {
+            x: column(line, 0),
+            y: column(line, 1),
+        }),
+        Some('#') if is_remark(line) => Ok(Line::Remark(&line[1..line.len() - 1])),
+        Some('D' | 'T' | '#') => Err(at_start(Cause::Length)),
         _ => Err(at_start(Cause::Letter)),
     }
 }
 
-/// The number that a column writes, or the fault at the column's first byte.
-fn wide_at(column: &[u8], byte: u32) -> Result<i64, Fault>
-    ensures { result ≡ wide_at byte column.now }
+/// The fault of column `k`, at the column's first byte.
+fn at_column(k: u8, cause: Cause) -> Fault
+    ensures { result ≡ at_byte (1 + 14 * k) cause }
 {
-    match wide(column) {
-        Some(n) => Ok(n),
-        None => Err(Fault {
-            cause: Cause::Digits,
-            byte,
-        }),
+    Fault {
+        cause,
+        byte: byte_of(k) as u32,
     }
 }
 
-/// The number in 32 bits, or the fault at the column's first byte.
-fn narrow_at(n: i64, byte: u32) -> Result<i32, Fault>
-    ensures { result ≡ narrow_at byte n }
+/// The number that column `k` writes, or its fault where it writes none.
+fn digits_at(number: Option<i64>, k: u8) -> Result<i64, Fault>
+    ensures { result ≡ digits_at (1 + 14 * k) number }
 {
-    match narrow(n) {
-        Ok(n) => Ok(n),
-        Err(cause) => Err(Fault { cause, byte }),
+    number.ok_or(at_column(k, Cause::Digits))
+}
+
+/// The number of column `k` in 32 bits, or its fault.
+fn narrow_at(number: i64, k: u8) -> Result<i32, Fault>
+    ensures { result ≡ narrow_at (1 + 14 * k) number }
+{
+    narrow(number).map_err(|cause| at_column(k, cause))
+}
+
+/// The numbers that some columns write: the digits of every column, and then the range of every number.
+fn numbers<const N: usize>(columns: [Option<i64>; N]) -> Result<[i32; N], Fault>
+    requires { N ≤ 3 }
+    ensures { result ≡ numbers_of (map judged columns.entry) }
+{
+    // Written by index: a `zip` with `iter_mut` leaves goals on the memory of an array of `N` elements that did not close.
+    let mut wides = [0; N];
+    for (k, column) in columns.iter().enumerate() {
+        wides[k] = digits_at(*column, k as u8)?;
     }
-}
-
-/// A datum's numbers: the digits of every column, and then the range of every number.
-fn read_datum(x: &[u8], y: &[u8], pitch: &[u8]) -> Result<Entry, Fault>
-    ensures { result ≡ datum_steps x.now y.now pitch.now }
-{
-    let x = wide_at(x, X)?;
-    let y = wide_at(y, Y)?;
-    let pitch = wide_at(pitch, PITCH)?;
-    let x = narrow_at(x, X)?;
-    let y = narrow_at(y, Y)?;
-    let pitch = narrow_at(pitch, PITCH)?;
-    Ok(Entry::Datum { x, y, pitch })
-}
-
-/// A tab's numbers, in the same order.
-fn read_tab(x: &[u8], y: &[u8]) -> Result<Entry, Fault>
-    ensures { result ≡ tab_steps x.now y.now }
-{
-    let x = wide_at(x, X)?;
-    let y = wide_at(y, Y)?;
-    let x = narrow_at(x, X)?;
-    let y = narrow_at(y, Y)?;
-    Ok(Entry::Tab { x, y })
+    let mut numbers = [0; N];
+    for (k, wide) in wides.iter().enumerate() {
+        numbers[k] = narrow_at(*wide, k as u8)?;
+    }
+    Ok(numbers)
 }
 
 impl Line<'_> {
@@ -153,8 +140,14 @@ impl Line<'_> {
         ensures { result ≡ entry_of (parted self.entry) }
     {
         match self {
-            Line::Datum { x, y, pitch } => read_datum(x, y, pitch),
-            Line::Tab { x, y } => read_tab(x, y),
+            Line::Datum { x, y, pitch } => {
+                let [x, y, pitch] = numbers([wide(x), wide(y), wide(pitch)])?;
+                Ok(Entry::Datum { x, y, pitch })
+            }
+            Line::Tab { x, y } => {
+                let [x, y] = numbers([wide(x), wide(y)])?;
+                Ok(Entry::Tab { x, y })
+            }
             Line::Remark(_) => Ok(Entry::Remark),
         }
     }
@@ -174,8 +167,5 @@ pub fn judge_line(line: &[u8], number: u32) -> Result<Entry, Refusal>
     if number > MOST_LINES {
         return Err(at_start(Cause::Count).at_line(number));
     }
-    match read_line(line) {
-        Ok(entry) => Ok(entry),
-        Err(fault) => Err(fault.at_line(number)),
-    }
+    read_line(line).map_err(|fault| fault.at_line(number))
 }

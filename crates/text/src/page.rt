@@ -1,52 +1,43 @@
 //! The lines of a page: 29 bytes each, two columns and byte 10.
 
-ghost use Rattle.std.specs.Prelude.{◌≡◌, ◌+◌, ◌≤◌, length};
-ghost use Rattle.text.specs.Pages.{has_room, line_text, page_after, placed, put_at, refusal_after, refusal_placed, row_text, writable};
+ghost use Rattle.std.specs.Prelude.{◌≡◌};
+ghost use Rattle.text.specs.Pages.{has_room, line_text, page_after, placed, refusal_after, refusal_placed, row_text, writable};
 
+use crate::column::{Column, WIDTH};
 use crate::digits::{measure_column, number_column, refusal_column};
 use crate::refusal::Refusal;
 use crate::row::Row;
 
 /// The length of a page line.
-pub const LINE: usize = 29;
+pub const LINE: usize = 2 * WIDTH + 1;
 
 /// Whether a line has its place on the page.
 fn has_room(page: &[u8], at: usize) -> bool
     ensures { result ≡ has_room page.now at }
 {
-    at <= page.len() && page.len() - at >= LINE
+    page.len().checked_sub(at).is_some_and(|left| left >= LINE)
 }
 
-/// Fills a line with two columns and byte 10.
-fn fill_line(line: &mut [u8], first: &[u8], second: &[u8])
-    requires whole { length line.old ≡ 29 }
-    requires columns { (length first.now ≡ 14) × (length second.now ≡ 14) }
-    ensures { line.new ≡ line_text first.now second.now }
+/// A line of two columns and byte 10.
+fn line_of(first: &Column, second: &Column) -> [u8; LINE]
+    ensures { result ≡ line_text first.now second.now }
 {
-    line[0..14].copy_from_slice(first);
-    line[14..28].copy_from_slice(second);
-    line[28] = b'\n';
+    let mut line = [b'\n'; LINE];
+    line[..WIDTH].copy_from_slice(first);
+    line[WIDTH..2 * WIDTH].copy_from_slice(second);
+    line
 }
 
-/// Writes a line of two columns on the page from `at` on.
-fn put(page: &mut [u8], at: usize, first: &[u8], second: &[u8])
-    requires room { at + 29 ≤ length page.old }
-    requires columns { (length first.now ≡ 14) × (length second.now ≡ 14) }
-    ensures { page.new ≡ put_at page.old at (line_text first.now second.now) }
-{
-    fill_line(&mut page[at..at + LINE], first, second);
-}
-
-/// Writes a line of two columns on the page from `at` on where there is room for it.
-fn place(page: &mut [u8], at: usize, first: &[u8], second: &[u8]) -> Result<(), Refusal>
-    requires columns { (length first.now ≡ 14) × (length second.now ≡ 14) }
+/// Writes a line on the page from `at` on where there is room for it.
+// The page and the place stay two parameters: a caller writes many lines on one page, each at a place of its own choice.
+fn write_line(page: &mut [u8], at: usize, line: &[u8; LINE]) -> Result<(), Refusal>
     ensures answer { result ≡ placed page.old at }
-    ensures after { page.new ≡ page_after page.old at (line_text first.now second.now) }
+    ensures after { page.new ≡ page_after page.old at line.now }
 {
     if !has_room(page, at) {
         return Err(Refusal::PageFull);
     }
-    put(page, at, first, second);
+    page[at..at + LINE].copy_from_slice(line);
     Ok(())
 }
 
@@ -57,14 +48,14 @@ pub fn write_row(page: &mut [u8], at: usize, row: Row) -> Result<(), Refusal>
 {
     let distance = measure_column(row.distance as i64);
     let offset = measure_column(row.offset);
-    place(page, at, &distance, &offset)
+    write_line(page, at, &line_of(&distance, &offset))
 }
 
 /// Whether a page can hold a refusal of that number at that line.
 fn is_writable(number: u8, line: u32) -> bool
     ensures { result ≡ writable number line }
 {
-    (number == 3 || number == 4 || number == 6) && line >= 1 && line <= 1_000_000
+    matches!(number, 3 | 4 | 6) && (1..=1_000_000).contains(&line)
 }
 
 /// Writes a refusal's number, 3, 4 or 6, and its line, 1 to 1,000,000, on the page from `at` on: `Unwritable` at any other
@@ -77,6 +68,6 @@ pub fn write_refusal(page: &mut [u8], at: usize, number: u8, line: u32) -> Resul
         return Err(Refusal::Unwritable);
     }
     let number = refusal_column(number);
-    let line = number_column(line as i64);
-    place(page, at, &number, &line)
+    let line = number_column(i64::from(line));
+    write_line(page, at, &line_of(&number, &line))
 }

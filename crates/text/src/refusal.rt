@@ -50,12 +50,12 @@ pub enum Refusal {
     PageFull,
 }
 
-impl Cause {
-    /// The cause's number, from 1 to 6.
-    pub fn number(self) -> u8
-        ensures { result ≡ cause_number self }
-    {
-        match self {
+/// The cause's number, from 1 to 6.
+impl From<Cause> for u8 {
+    ghost from_gives = { λ cause number. number ≡ cause_number cause };
+
+    fn from(cause: Cause) -> u8 {
+        match cause {
             Cause::Count => 1,
             Cause::Letter => 2,
             Cause::Length => 3,
@@ -80,12 +80,12 @@ impl Fault {
     }
 }
 
-impl Refusal {
-    /// The refusal's number.
-    pub fn number(self) -> u8
-        ensures { result ≡ refusal_number self }
-    {
-        match self {
+/// The refusal's number.
+impl From<Refusal> for u8 {
+    ghost from_gives = { λ refusal number. number ≡ refusal_number refusal };
+
+    fn from(refusal: Refusal) -> u8 {
+        match refusal {
             Refusal::BadLine { .. } => 6,
             Refusal::Unwritable => 8,
             Refusal::PageFull => 11,

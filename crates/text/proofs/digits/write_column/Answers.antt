@@ -5,7 +5,7 @@ use Rattle.text.specs.Pages.{number_text}
 use Rattle.text.proofs.Returning.{reads_back}
 use Rattle.text.proofs.digits.write_column.Goals as goal
 
-pub returns : goal.returns
-returns c =
+pub returns-clause-reads : goal.returns-clause-reads
+returns-clause-reads c =
     let text : c.number_column.result ≡ number_text c.args.n = search rules in
-    record { text = text; reads = ap column_of text ∙ reads_back c.args.n (omega arith) }
+    ap column_of text ∙ reads_back c.args.n (omega arith)

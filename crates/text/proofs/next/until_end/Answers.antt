@@ -1,19 +1,18 @@
--- A byte that is not 10 counts one; byte 10 and the end count none.
-use Rattle.std.proofs.Common.{sym, ◌∙◌, arith}
-use Rattle.text.proofs.Falling.{past_byte, at_end, no_end}
+-- The bytes that are counted are those before the first byte 10.
+use Rattle.std.proofs.Common.{ℕ, not, sym, ◌∙◌, rules, tests}
+use Rattle.std.proofs.lemmas.Iterator.{YieldsList-from_slice}
+use Rattle.std.proofs.lemmas.Iterator.Consumers.{count_from_yields_List}
+use Rattle.std.proofs.lemmas.Iterator.Search.{YieldsList-from_take_while}
+use Rattle.std.proofs.lemmas.List.Folds.{length-prefix_len}
+use Rattle.text.specs.Lines.{end}
+use Rattle.text.proofs.Falling.{until_end_passed}
 use Rattle.text.proofs.next.until_end.Goals as goal
 
-pub loop-n-preserved : goal.loop-n-preserved
-loop-n-preserved c =
-    let e = past_byte c.args.text.now c.loop-n.n (omega arith) (sym c.is_end.ensures ∙ c.if-not-is_end.true) in
-    (omega arith, omega arith)
-
-pub returns-else-not-is_end : goal.returns-else-not-is_end
-returns-else-not-is_end c =
-    let e = at_end c.args.text.now c.loop-n.n (omega arith) (sym c.is_end.ensures ∙ c.if-not-is_end.false) in
-    record { value = omega arith; bound = omega arith }
-
-pub returns-after-loop-n : goal.returns-after-loop-n
-returns-after-loop-n c =
-    let e = no_end c.args.text.now c.loop-n.n (omega arith) in
-    record { value = omega arith; bound = omega arith }
+pub returns-clause-value : goal.returns-clause-value
+returns-clause-value c =
+    let text = c.args.text.now in
+    let passed = λ (b : ℕ). not (end b) in
+    count_from_yields_List _ c.count.result c.count.ensures.ran
+    (YieldsList-from_take_while _ passed (YieldsList-from_slice text cc) c.take_while.ensures.closure c.take_while.ensures.done (λ x b q k. search (rules, tests)))
+    ∙ length-prefix_len passed text
+    ∙ sym (until_end_passed text)

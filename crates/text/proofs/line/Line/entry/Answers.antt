@@ -1,16 +1,33 @@
--- Two rounds over the columns find the leftmost column of the lower cause.
-use Rattle.std.proofs.Common.{sym, ap, ◌∙◌}
+-- A datum is refused as its columns are, or is made of their numbers.
+use Rattle.std.proofs.Common.{◌≡◌, [], ◌∷◌, List, get_or, map, ℤ, pos, Err, sym, ap, ◌∙◌, rules, w32, to_z, of_z}
 use Rattle.text.specs.declared.line.Line.{Line}
-use Rattle.text.specs.Columns.{wide_of}
+use Rattle.text.specs.declared.line.Entry.TheVariants.{Datum}
+use Rattle.text.specs.Columns.{column_of}
 use Rattle.text.specs.Cutting.{parted}
-use Rattle.text.specs.Judging.{entry_of}
-use Rattle.text.proofs.Rounds.{datum_rounds, tab_rounds}
+use Rattle.text.specs.Judging.{entry_of, fault_of, number_of, numbers_of}
+use Rattle.text.proofs.Rounds.{err_unless, ok_unless}
 use Rattle.text.proofs.line.Line.entry.Goals as goal
 
-pub returns-in-Datum : goal.returns-in-Datum
-returns-in-Datum c = c.read_datum.ensures ∙ datum_rounds (wide_of c.in-Datum.x.now) (wide_of c.in-Datum.y.now) (wide_of c.in-Datum.pitch.now)
-    ∙ sym (ap (λ (l : Line). entry_of (parted l)) c.in-Datum.is)
+pub returns-in_err-x-in-Datum : goal.returns-in_err-x-in-Datum
+returns-in_err-x-in-Datum c =
+    let d = c.in-Datum in
+    let rs = column_of d.x.now ∷ column_of d.y.now ∷ column_of d.pitch.now ∷ [] in
+    let n : c.numbers.result ≡ numbers_of rs = search rules in
+    let r : c.from_residual.result ≡ Err c.in_err-x-in-Datum.field-0.0 = search rules in
+    r
+    ∙ err_unless (fault_of rs) (map number_of rs) c.in_err-x-in-Datum.field-0.0 _ (sym n ∙ c.in_err-x-in-Datum.was)
+    ∙ sym (ap (λ (l : Line). entry_of (parted l)) d.is)
 
-pub returns-in-Tab : goal.returns-in-Tab
-returns-in-Tab c = c.read_tab.ensures ∙ tab_rounds (wide_of c.in-Tab.x.now) (wide_of c.in-Tab.y.now)
-    ∙ sym (ap (λ (l : Line). entry_of (parted l)) c.in-Tab.is)
+pub returns-in_ok-x-in-Datum : goal.returns-in_ok-x-in-Datum
+returns-in_ok-x-in-Datum c =
+    let d = c.in-Datum in
+    let rs = column_of d.x.now ∷ column_of d.y.now ∷ column_of d.pitch.now ∷ [] in
+    let ns = c.in_ok-x-in-Datum.field-0 in
+    let n : c.numbers.result ≡ numbers_of rs = search rules in
+    let x : to_z w32 (of_z w32 (get_or ns 0 (pos 0))) ≡ get_or ns 0 (pos 0) = search rules in
+    let y : to_z w32 (of_z w32 (get_or ns 1 (pos 0))) ≡ get_or ns 1 (pos 0) = search rules in
+    let pitch : to_z w32 (of_z w32 (get_or ns 2 (pos 0))) ≡ get_or ns 2 (pos 0) = search rules in
+    rw (x, y, pitch)
+    (ok_unless (fault_of rs) (map number_of rs) ns (λ (l : List ℤ). Datum (get_or l 0 (pos 0)) (get_or l 1 (pos 0)) (get_or l 2 (pos 0)))
+    (sym n ∙ c.in_ok-x-in-Datum.was)
+    ∙ sym (ap (λ (l : Line). entry_of (parted l)) d.is))
