@@ -4,123 +4,39 @@
 mod tests {
     use text::{Cause, read_column, write_column};
 
-    #[derive(Clone, Copy)]
-    struct Case {
-        column: &'static [u8],
-        says: Result<i32, Cause>,
-    }
-
-    static CASES: [Case; 26] = [
-        Case {
-            column: b"             0",
-            says: Ok(0),
-        },
-        Case {
-            column: b"            +0",
-            says: Ok(0),
-        },
-        Case {
-            column: b"            -7",
-            says: Ok(-7),
-        },
-        Case {
-            column: b"           +70",
-            says: Ok(70),
-        },
-        Case {
-            column: b"    2147483647",
-            says: Ok(2147483647),
-        },
-        Case {
-            column: b"   -2147483648",
-            says: Ok(-2147483648),
-        },
-        Case {
-            column: b"    2147483648",
-            says: Err(Cause::Range),
-        },
-        Case {
-            column: b"   -2147483649",
-            says: Err(Cause::Range),
-        },
-        Case {
-            column: b"99999999999999",
-            says: Err(Cause::Range),
-        },
-        Case {
-            column: b"-9999999999999",
-            says: Err(Cause::Range),
-        },
-        Case {
-            column: b"            -0",
-            says: Err(Cause::Digits),
-        },
-        Case {
-            column: b"            00",
-            says: Err(Cause::Digits),
-        },
-        Case {
-            column: b"           +07",
-            says: Err(Cause::Digits),
-        },
-        Case {
-            column: b"           -07",
-            says: Err(Cause::Digits),
-        },
-        Case {
-            column: b"             -",
-            says: Err(Cause::Digits),
-        },
-        Case {
-            column: b"             +",
-            says: Err(Cause::Digits),
-        },
-        Case {
-            column: b"           +-1",
-            says: Err(Cause::Digits),
-        },
-        Case {
-            column: b"              ",
-            says: Err(Cause::Digits),
-        },
-        Case {
-            column: b"            1 ",
-            says: Err(Cause::Digits),
-        },
-        Case {
-            column: b"           1 2",
-            says: Err(Cause::Digits),
-        },
-        Case {
-            column: b"\t            1",
-            says: Err(Cause::Digits),
-        },
-        Case {
-            column: b"\0            1",
-            says: Err(Cause::Digits),
-        },
-        Case {
-            column: b"            \xB91",
-            says: Err(Cause::Digits),
-        },
-        Case {
-            column: b"           1.0",
-            says: Err(Cause::Digits),
-        },
-        Case {
-            column: b"            1",
-            says: Err(Cause::Digits),
-        },
-        Case {
-            column: b"              1",
-            says: Err(Cause::Digits),
-        },
+    static CASES: [(&[u8], Result<i32, Cause>); 26] = [
+        (b"             0", Ok(0)),
+        (b"            +0", Ok(0)),
+        (b"            -7", Ok(-7)),
+        (b"           +70", Ok(70)),
+        (b"    2147483647", Ok(2147483647)),
+        (b"   -2147483648", Ok(-2147483648)),
+        (b"    2147483648", Err(Cause::Range)),
+        (b"   -2147483649", Err(Cause::Range)),
+        (b"99999999999999", Err(Cause::Range)),
+        (b"-9999999999999", Err(Cause::Range)),
+        (b"            -0", Err(Cause::Digits)),
+        (b"            00", Err(Cause::Digits)),
+        (b"           +07", Err(Cause::Digits)),
+        (b"           -07", Err(Cause::Digits)),
+        (b"             -", Err(Cause::Digits)),
+        (b"             +", Err(Cause::Digits)),
+        (b"           +-1", Err(Cause::Digits)),
+        (b"              ", Err(Cause::Digits)),
+        (b"            1 ", Err(Cause::Digits)),
+        (b"           1 2", Err(Cause::Digits)),
+        (b"\t            1", Err(Cause::Digits)),
+        (b"\0            1", Err(Cause::Digits)),
+        (b"            \xB91", Err(Cause::Digits)),
+        (b"           1.0", Err(Cause::Digits)),
+        (b"            1", Err(Cause::Digits)),
+        (b"              1", Err(Cause::Digits)),
     ];
 
     #[test]
     fn columns_stand_for_numbers(rt: HostRuntime) {
-        for case in &CASES {
-            assert_eq!(rt; read_column(case.column), case.says);
+        for (column, says) in CASES {
+            assert_eq!(rt; read_column(column), says);
         }
     }
 

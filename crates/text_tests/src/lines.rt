@@ -3,107 +3,65 @@
 #[cfg(test)]
 mod tests {
     use std::test::Fail;
-    use text::{Cause, Entry, Fault, Layer, Refusal, judge_line, next_line, read_line};
-
-    #[derive(Clone, Copy)]
-    struct Case {
-        line: &'static [u8],
-        says: Result<Entry, Fault>,
-    }
+    use text::{Cause, Entry, Fault, Layer, Lines, Refusal, judge_line, next_line, read_line};
 
     const fn fault(cause: Cause, byte: u32) -> Result<Entry, Fault> {
         Err(Fault { cause, byte })
     }
 
-    fn cases() -> [Case; 19] {
+    fn cases() -> [(&'static [u8], Result<Entry, Fault>); 19] {
         [
-            Case {
-                line: b"D             1            -2             3\n",
-                says: Ok(Entry::Datum {
+            (
+                b"D             1            -2             3\n",
+                Ok(Entry::Datum {
                     x: 1,
                     y: -2,
                     pitch: 3,
                 }),
-            },
-            Case {
-                line: b"T             1            -2\n",
-                says: Ok(Entry::Tab { x: 1, y: -2 }),
-            },
-            Case {
-                line: b"#\n",
-                says: Ok(Entry::Remark),
-            },
-            Case {
-                line: b"#\xFF\0\r\n",
-                says: Ok(Entry::Remark),
-            },
-            Case {
-                line: b"\n",
-                says: fault(Cause::Letter, 0),
-            },
-            Case {
-                line: b"",
-                says: fault(Cause::Letter, 0),
-            },
-            Case {
-                line: b"d\n",
-                says: fault(Cause::Letter, 0),
-            },
-            Case {
-                line: b"X",
-                says: fault(Cause::Letter, 0),
-            },
-            Case {
-                line: b"D",
-                says: fault(Cause::Length, 0),
-            },
-            Case {
-                line: b"#",
-                says: fault(Cause::Length, 0),
-            },
-            Case {
-                line: b"T             1            -2",
-                says: fault(Cause::Length, 0),
-            },
-            Case {
-                line: b"T             1            -2\r\n",
-                says: fault(Cause::Length, 0),
-            },
-            Case {
-                line: b"T             1            -2 ",
-                says: fault(Cause::Length, 0),
-            },
-            Case {
-                line: b"T    2147483648             x\n",
-                says: fault(Cause::Digits, 15),
-            },
-            Case {
-                line: b"T    2147483648    2147483648\n",
-                says: fault(Cause::Range, 1),
-            },
-            Case {
-                line: b"D             1             -             -\n",
-                says: fault(Cause::Digits, 15),
-            },
-            Case {
-                line: b"D             x             1    2147483648\n",
-                says: fault(Cause::Digits, 1),
-            },
-            Case {
-                line: b"D             1   -2147483649             -\n",
-                says: fault(Cause::Digits, 29),
-            },
-            Case {
-                line: b"D             1             1    2147483648\n",
-                says: fault(Cause::Range, 29),
-            },
+            ),
+            (
+                b"T             1            -2\n",
+                Ok(Entry::Tab { x: 1, y: -2 }),
+            ),
+            (b"#\n", Ok(Entry::Remark)),
+            (b"#\xFF\0\r\n", Ok(Entry::Remark)),
+            (b"\n", fault(Cause::Letter, 0)),
+            (b"", fault(Cause::Letter, 0)),
+            (b"d\n", fault(Cause::Letter, 0)),
+            (b"X", fault(Cause::Letter, 0)),
+            (b"D", fault(Cause::Length, 0)),
+            (b"#", fault(Cause::Length, 0)),
+            (b"T             1            -2", fault(Cause::Length, 0)),
+            (
+                b"T             1            -2\r\n",
+                fault(Cause::Length, 0),
+            ),
+            (b"T             1            -2 ", fault(Cause::Length, 0)),
+            (b"T    2147483648             x\n", fault(Cause::Digits, 15)),
+            (b"T    2147483648    2147483648\n", fault(Cause::Range, 1)),
+            (
+                b"D             1             -             -\n",
+                fault(Cause::Digits, 15),
+            ),
+            (
+                b"D             x             1    2147483648\n",
+                fault(Cause::Digits, 1),
+            ),
+            (
+                b"D             1   -2147483649             -\n",
+                fault(Cause::Digits, 29),
+            ),
+            (
+                b"D             1             1    2147483648\n",
+                fault(Cause::Range, 29),
+            ),
         ]
     }
 
     #[test]
     fn lines_say_numbers_or_faults(rt: HostRuntime) {
-        for case in cases() {
-            assert_eq!(rt; read_line(case.line), case.says);
+        for (line, says) in cases() {
+            assert_eq!(rt; read_line(line), says);
         }
     }
 
@@ -131,22 +89,26 @@ mod tests {
         );
     }
 
-    fn same(a: &[u8], b: &[u8]) -> bool {
-        a == b
-    }
-
     #[test]
     fn a_text_falls_into_lines(rt: HostRuntime) -> Result<(), Fail> {
         let lines: [&[u8]; 3] = [b"T\n", b"\n", b"#a"];
         let mut rest: &[u8] = b"T\n\n#a";
         for line in lines {
-            let Some(next) = next_line(rest) else {
-                return Err(Fail::new("no line"));
-            };
-            assert!(rt; same(next.line, line));
+            let next = next_line(rest).ok_or_else(|| Fail::new("no line"))?;
+            assert_eq!(rt; next.line, line);
             rest = next.rest;
         }
         assert!(rt; next_line(rest).is_none());
         Ok(())
+    }
+
+    #[test]
+    fn lines_come_in_order(rt: HostRuntime) {
+        let lines: [&[u8]; 3] = [b"T\n", b"\n", b"#a"];
+        let mut left = Lines::new(b"T\n\n#a");
+        for line in lines {
+            assert_eq!(rt; left.next(), Some(line));
+        }
+        assert_eq!(rt; left.next(), None);
     }
 }

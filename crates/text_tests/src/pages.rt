@@ -48,13 +48,13 @@ mod tests {
     #[test]
     fn rows_are_written(rt: HostRuntime) -> Result<(), Fail> {
         for case in &CASES {
-            let Some(row) = Row::new(case.distance, case.offset) else {
-                return Err(Fail::new("out of range"));
-            };
+            let row = Row::new(case.distance, case.offset).ok_or_else(|| Fail::new(
+                "out of range",
+            ))?;
             let mut page = [b'.'; 31];
             assert_eq!(rt; write_row(&mut page, 1, row), Ok(()));
             assert_eq!(rt; page[0], b'.');
-            assert_eq!(rt; &page[1..30], &case.text[0..29]);
+            assert_eq!(rt; &page[1..30], &case.text[..]);
             assert_eq!(rt; page[30], b'.');
         }
         assert!(rt; Row::new(100_000_000_000, 0).is_none());
@@ -74,9 +74,7 @@ mod tests {
 
     #[test]
     fn refused_calls_leave_the_page(rt: HostRuntime) -> Result<(), Fail> {
-        let Some(row) = Row::new(1, 1) else {
-            return Err(Fail::new("out of range"));
-        };
+        let row = Row::new(1, 1).ok_or_else(|| Fail::new("out of range"))?;
         let mut page = [b'.'; 29];
         assert_eq!(rt; write_row(&mut page, 1, row), Err(Refusal::PageFull));
         assert_eq!(rt; write_row(&mut page, 29, row), Err(Refusal::PageFull));
