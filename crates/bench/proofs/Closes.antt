@@ -1,32 +1,26 @@
 -- The closing value of a sheet rounds as the exact value does: the same facts over the units of the patterns that the operands stand for.
-use Rattle.std.proofs.Common.{◌≡◌, ℕ, Bool, List, [], map, Some, None, Option, ap, ◌∙◌, subst}
+use Rattle.std.proofs.Common.{◌≡◌, ℕ, Bool, not, List, None, Option, ap, ◌∙◌, subst}
+use mathlib.Core.Bool.{beq}
 use Prim.Native.Nat.{Ordering}
 use Rattle.registers.specs.declared.mode.Mode.{Mode}
 use Rattle.registers.specs.declared.mode.Rounded.{Rounded}
+use Rattle.registers.specs.declared.pattern.Finite.{Finite}
 use Rattle.registers.specs.declared.pattern.Pattern.{Pattern}
-use Rattle.registers.specs.declared.register.Register.{Register}
 use Rattle.registers.specs.Binary32.{beside_whole}
 use Rattle.registers.specs.Modes.{rounded}
-use Rattle.registers.specs.Values.{Value, value}
+use Rattle.registers.specs.Values.{Value}
 use Rattle.sheets.specs.Beside.{SameRounding, beside_quotient}
+use Rattle.sheets.specs.Operands.{units_of}
 use Rattle.sheets.specs.Quotients.{QuotientSheet}
 use Rattle.sheets.specs.Roots.{RootSheet}
-use Rattle.bench.specs.declared.answer.Answer.{Answer}
 use Rattle.bench.specs.declared.answer.Special.{Special}
-use Rattle.bench.specs.Tables.{rounded_answer}
+use Rattle.bench.specs.Kinds.{Stands, is_negative, signs_differ, units}
 use Rattle.bench.specs.Worksheets.{ByTable, Closes}
 
 -- ---- by the table
 
-pub no_lines : (C : Type 0) (special : Special) (table : Option Special) (lines : List Register) → Some special ≡ table → lines ≡ [] → ByTable table (map value lines) C
-no_lines C special table lines is e = subst (λ (t : Option Special). ByTable t (map value lines) C) is (ap (map value) e)
-
 pub with_lines : (C : Type 0) (table : Option Special) (lines : List Value) → None ≡ table → C → ByTable table lines C
 with_lines C table lines is c = subst (λ (t : Option Special). ByTable t lines C) is c
-
--- the answer gives out the pattern of the rounded value
-pub given_out : (d : Bool) (v : Rounded) (r : Answer) → r ≡ rounded_answer d v → r.pattern ≡ v.pattern
-given_out d v r e = ap (λ (a : Answer). a.pattern) e
 
 -- ---- the closing value, rounded under a sign
 
@@ -40,9 +34,6 @@ module _ (mode : Mode) (s t : Bool) (st : s ≡ t) (closing : ℕ) (r : Rounded)
   pub closes : (Filled : List Value → ℕ → Type 0) (lines : List Value) → Filled lines closing → Closes Filled mode t lines r.pattern
   closes Filled lines sheet = record { closing = closing; sheet = sheet; result = ap (λ (v : Rounded). v.pattern) under }
 
-pub closes_given : {Filled : List Value → ℕ → Type 0} {mode : Mode} {s : Bool} {lines : List Value} {p : Pattern} (q : Pattern) → q ≡ p → Closes Filled mode s lines p → Closes Filled mode s lines q
-closes_given q e c = record { closing = c.closing; sheet = c.sheet; result = e ∙ c.result }
-
 -- ---- the units of the operands
 
 pub quotient_value : (A B a b : ℕ) → A ≡ a → B ≡ b → beside_quotient A B ≡ beside_quotient a b
@@ -53,3 +44,24 @@ quotient_sheet seeds A B a b lines closing e f sheet = subst (λ (x : ℕ). Quot
 
 pub root_sheet : (seeds : ℕ → ℕ) (A a : ℕ) (lines : List Value) (closing : ℕ) → A ≡ a → RootSheet seeds A lines closing → RootSheet seeds a lines closing
 root_sheet seeds A a lines closing e sheet = subst (λ (x : ℕ). RootSheet seeds x lines closing) e sheet
+
+-- ---- the patterns that the operands come from
+
+pub stands_at : (x : Finite) (p q : Pattern) → p ≡ q → Stands x p → Stands x q
+stands_at x p q e s = subst (Stands x) e s
+
+module _ (x y : Finite) (a b : Pattern) (sx : Stands x a) (sy : Stands y b) (mode : Mode) where
+  signs : not (beq x.negative y.negative) ≡ signs_differ a b
+  unfolding signs_differ
+  signs = ap (λ (s : Bool). not (beq s y.negative)) sx.sign ∙ ap (λ (s : Bool). not (beq (is_negative a) s)) sy.sign
+
+  pub quotient_alike : rounded mode (not (beq x.negative y.negative)) (beside_quotient (units_of x) (units_of y)) ≡ rounded mode (signs_differ a b) (beside_quotient (units a) (units b))
+  quotient_alike =
+      ap (λ (s : Bool). rounded mode s (beside_quotient (units_of x) (units_of y))) signs ∙ ap (rounded mode (signs_differ a b)) (quotient_value _ _ _ _ sx.size sy.size)
+
+  pub closes_alike : (seeds : ℕ → ℕ) (lines : List Value) (p : Pattern) → Closes (QuotientSheet seeds (units_of x) (units_of y)) mode (not (beq x.negative y.negative)) lines p → Closes (QuotientSheet seeds (units a) (units b)) mode (signs_differ a b) lines p
+  closes_alike seeds lines p c = record {
+    closing = c.closing;
+    sheet = quotient_sheet _ _ _ _ _ _ _ sx.size sy.size c.sheet;
+    result = c.result ∙ ap (λ (s : Bool). (rounded mode s (beside_whole c.closing)).pattern) signs;
+  }

@@ -1,6 +1,8 @@
 -- Flags that are raised one after the other are raised together.
 use Rattle.std.proofs.Common.{◌≡◌, Bool, true, false, ◌||◌, refl, ap, ◌∙◌}
+use Rattle.bench.specs.declared.desk.Desk.{Desk}
 use Rattle.bench.specs.declared.flags.Flags.{Flags}
+use Rattle.bench.specs.Desks.{RaisesThere}
 use Rattle.bench.specs.Raised.{joined_flags, no_flags}
 
 or_assoc : (a b c : Bool) → ((a || b) || c) ≡ (a || (b || c))
@@ -22,6 +24,13 @@ pub raised_thrice : (f a b c : Flags) (g h i : Flags) → g ≡ joined_flags f a
 raised_thrice f a b c g h i eg eh ei =
     ei ∙ ap (λ (x : Flags). joined_flags x c) (eh ∙ ap (λ (x : Flags). joined_flags x b) eg ∙ joined_assoc f a b)
     ∙ joined_assoc f (joined_flags a b) c
+
+-- raised after a step that leaves the flags and the source as they were
+pub raises_as : {S : Type 0} (f g : Flags) (old middle after : Desk S) → f ≡ g → middle.flags ≡ old.flags → middle.source ≡ old.source → RaisesThere f middle after → RaisesThere g old after
+raises_as f g old middle after e ef es r = record {
+  flags = r.flags ∙ ap (λ (x : Flags). joined_flags x f) ef ∙ ap (joined_flags old.flags) e;
+  origin = r.origin ∙ es;
+}
 
 or_false : (a : Bool) → (a || false) ≡ a
 or_false true = refl

@@ -1,5 +1,5 @@
 -- How an answer follows from its table, and what it says of the operands that no row decides.
-use Rattle.std.proofs.Common.{◌≡◌, ℕ, ◌<◌, ◌≤◌, Bool, true, false, not, ◌&&◌, ◌||◌, Some, None, Option, refl, ap, ◌∙◌, arith}
+use Rattle.std.proofs.Common.{◌≡◌, ℕ, ◌<◌, ◌≤◌, Bool, true, false, not, ◌&&◌, ◌||◌, Some, None, Ok, Err, Option, Result, refl, ap, ◌∙◌, arith}
 use mathlib.Core.Bool.{beq}
 use Rattle.std.proofs.lemmas.Bool.{ltb-false, eqb-false, or_parts}
 use Rattle.registers.specs.declared.mode.Rounded.{Rounded}
@@ -7,15 +7,30 @@ use Rattle.registers.specs.declared.pattern.Pattern.{Pattern}
 use Rattle.bench.specs.declared.answer.Special.{Special}
 use Rattle.bench.specs.declared.answer.Special.TheVariants.{Invalid, Quiet, Given, ByZero}
 use Rattle.bench.specs.Kinds.{is_negative, is_nan, is_signalling, is_infinite, is_zero, signs_differ, unsigned}
-use Rattle.bench.specs.Tables.{row, infinity_of, zero_of, special_answer, rounded_answer, settled, fuse_table, divide_table, root_table, remainder_table}
+use Rattle.bench.specs.Tables.{row, infinity_of, zero_of, answered, settled, fuse_table, divide_table, root_table, remainder_table}
+use Rattle.bench.specs.Unless.{unless}
 
 -- ---- answers
 
-pub by_row : (d e : Bool) (special : Special) (table : Option Special) (v : Rounded) → d ≡ e → Some special ≡ table → special_answer d special ≡ settled e table v
-by_row d e special table v same is = ap (λ (b : Bool). special_answer b special) same ∙ ap (λ (t : Option Special). settled e t v) is
+-- what stands in the place of a value does so whatever the value
+pub by_row : {E T U : Type 0} (table : Option E) (e : E) (v : T) (w : U) → Err e ≡ unless table v → Err e ≡ unless table w
+by_row (Some f) e v w is = cc
+by_row None e v w is = cc
 
-pub by_value : (d e : Bool) (table : Option Special) (v w : Rounded) → d ≡ e → None ≡ table → v ≡ w → rounded_answer d v ≡ settled e table w
-by_value d e table v w same is value = ap (λ (b : Bool). rounded_answer b v) same ∙ ap (rounded_answer e) value ∙ ap (λ (t : Option Special). settled e t w) is
+-- nothing stands in its place
+pub undecided : {E T : Type 0} (table : Option E) (v w : T) → Ok v ≡ unless table w → None ≡ table
+undecided (Some e) v w is = cc
+undecided None v w is = refl
+
+pub by_value : {E T : Type 0} (table : Option E) (v w : T) → None ≡ table → v ≡ w → Ok v ≡ unless table w
+by_value table v w is value = ap Ok value ∙ ap (λ t. unless t w) is
+
+pub answered_is : (d e : Bool) (table : Option Special) (v : Rounded) (r : Result Rounded Special) → d ≡ e → r ≡ unless table v → answered d r ≡ settled e table v
+answered_is d e table v r same is = ap (λ (b : Bool). answered b r) same ∙ ap (answered e) is ∙ go table
+  where
+    go : (t : Option Special) → answered e (unless t v) ≡ settled e t v
+    go (Some special) = refl
+    go None = refl
 
 -- a test of any of the operands
 pub any_two : (a b a' b' : Bool) → a ≡ a' → b ≡ b' → (a || b) ≡ (a' || b')
@@ -23,9 +38,6 @@ any_two a b a' b' e f = cc
 
 pub any_three : (a b c a' b' c' : Bool) → a ≡ a' → b ≡ b' → c ≡ c' → (a || b || c) ≡ (a' || b' || c')
 any_three a b c a' b' c' e f g = cc
-
-pub not_both : (special : Special) (table : Option Special) → Some special ≡ table → None ≡ table → ⊥
-not_both special table e f = let z : ◌≡◌ {A = ℕ} 0 1 = cc in omega arith
 
 -- ---- operands
 

@@ -26,31 +26,31 @@ module _ {S : Type 0} where
   -- a bench on which nothing was done
   pub record Fresh (source : S) (b : Bench S) : Type 0 where
     pub mode : standing_mode b ≡ NearestEven
-    pub flags : b.flags ≡ no_flags
-    pub sheet : written b.sheet ≡ []
-    pub origin : b.source ≡ source
+    pub flags : b.desk.flags ≡ no_flags
+    pub sheet : written b.desk.sheet ≡ []
+    pub origin : b.desk.source ≡ source
 
   -- the mode alone changes
   abbrev pub with_mode : Option Mode → Bench S → Bench S
-  with_mode m b = record { standing = record { mode = or_kept m (standing_mode b) }; flags = b.flags; sheet = b.sheet; source = b.source }
+  with_mode m b = record { standing = record { mode = or_kept m (standing_mode b) }; desk = b.desk }
 
   -- the flags alone change
   abbrev pub cleared : Bench S → Bench S
-  cleared b = record { standing = b.standing; flags = no_flags; sheet = b.sheet; source = b.source }
+  cleared b = record { standing = b.standing; desk = record { flags = no_flags; sheet = b.desk.sheet; source = b.desk.source } }
 
   -- a call raises flags, and leaves the mode and the source as they were
   pub record Raises (raised : Flags) (before after : Bench S) : Type 0 where
-    pub flags : after.flags ≡ joined_flags before.flags raised
+    pub flags : after.desk.flags ≡ joined_flags before.desk.flags raised
     pub mode : standing_mode after ≡ standing_mode before
-    pub origin : after.source ≡ before.source
+    pub origin : after.desk.source ≡ before.desk.source
 
   -- a call may change the sheet alone
   pub record SheetOnly (before after : Bench S) : Type 0 where
-    pub flags : after.flags ≡ before.flags
+    pub flags : after.desk.flags ≡ before.desk.flags
     pub mode : standing_mode after ≡ standing_mode before
-    pub origin : after.source ≡ before.source
+    pub origin : after.desk.source ≡ before.desk.source
 
 -- a refused call leaves everything as it was
-abbrev pub KeptIfRefused : {S T : Type 0} → Result T Refusal → Bench S → Bench S → Type 0
+abbrev pub KeptIfRefused : {B T : Type 0} → Result T Refusal → B → B → Type 0
 KeptIfRefused (Ok r) before after = Unit {0}
 KeptIfRefused (Err e) before after = after ≡ before

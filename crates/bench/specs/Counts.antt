@@ -1,9 +1,10 @@
 -- Whole numbers counted: the quotient cut toward zero, and the remainder, which has the dividend's sign.
-use Rattle.std.specs.Prelude.{ℕ, ◌/◌, ◌%◌, Bool, true, false, cond, not, ◌||◌, ℤ, pos, negsuc, neg_ℤ, Some, None, Ok, Err, Option, Result, ◌==◌, nat_lt, unsigned_abs}
+use Rattle.std.specs.Prelude.{ℕ, ◌/◌, ◌%◌, Bool, true, false, cond, not, ◌||◌, ℤ, pos, negsuc, neg_ℤ, Some, None, Option, Result, ◌==◌, nat_lt, unsigned_abs}
 use Rattle.std.specs.Bool.{beq}
 use Rattle.bench.specs.declared.count.Counted.{Counted}
 use Rattle.bench.specs.declared.refusal.Refusal.{Refusal}
 use Rattle.bench.specs.declared.refusal.Refusal.TheVariants.{ZeroDivisor, Beyond}
+use Rattle.bench.specs.Unless.{unless}
 
 -- the greatest magnitude of an operand
 abbrev pub greatest : ℕ
@@ -24,9 +25,5 @@ counted a b = record { quotient = with_sign_ℤ (not (beq (is_below_zero a) (is_
 abbrev pub count_refusal : ℕ → ℕ → Option Refusal
 count_refusal m n = cond (nat_lt greatest m || nat_lt greatest n) (Some Beyond) (cond (n == 0) (Some ZeroDivisor) None)
 
-abbrev pub unless_refused : Option Refusal → Counted → Result Counted Refusal
-unless_refused (Some e) r = Err e
-unless_refused None r = Ok r
-
 unfoldable pub count_answer : ℤ → ℤ → Result Counted Refusal
-count_answer a b = unless_refused (count_refusal (unsigned_abs a) (unsigned_abs b)) (counted a b)
+count_answer a b = unless (count_refusal (unsigned_abs a) (unsigned_abs b)) (counted a b)

@@ -1,3 +1,4 @@
+pub mod Unless
 pub mod Raised
 pub mod Kinds
 pub mod Tables
@@ -9,6 +10,7 @@ pub mod Worked
 pub mod Refused
 pub mod Counts
 pub mod Worksheets
+pub mod Desks
 pub mod Benches
 pub mod Distances
 pub mod Rounding

@@ -1,5 +1,5 @@
 -- What special operands make of each call: a table, in which the first row whose test holds decides. Where no row does, the exact value is rounded.
-use Rattle.std.specs.Prelude.{Bool, true, false, cond, not, ◌&&◌, ◌||◌, Some, None, Option}
+use Rattle.std.specs.Prelude.{Bool, true, false, cond, not, ◌&&◌, ◌||◌, Some, None, Ok, Err, Option, Result}
 use Rattle.std.specs.Bool.{beq}
 use Rattle.registers.specs.declared.pattern.Pattern.{Pattern}
 use Rattle.registers.specs.declared.mode.Rounded.{Rounded}
@@ -77,3 +77,12 @@ rounded_answer subnormal v = record { pattern = v.pattern; flags = record { inva
 abbrev pub settled : Bool → Option Special → Rounded → Answer
 settled subnormal (Some special) v = special_answer subnormal special
 settled subnormal None v = rounded_answer subnormal v
+
+-- the same of a value, or of the row that decides in its place
+abbrev pub answered : Bool → Result Rounded Special → Answer
+answered subnormal (Ok v) = rounded_answer subnormal v
+answered subnormal (Err special) = special_answer subnormal special
+
+-- the pattern of the answer, which does not turn on whether an operand is subnormal
+abbrev pub given_out : Result Rounded Special → Pattern
+given_out r = (answered false r).pattern

@@ -3,9 +3,8 @@
 pub mod measure;
 pub mod methods;
 
-use crate::flags::Flags;
+use crate::desk::Desk;
 use registers::Mode;
-use sheets::Sheet;
 use sources::Source;
 
 /// The mode that stands, on its own, so that it can be lent by itself.
@@ -14,11 +13,9 @@ pub struct ModeRecord {
     mode: Mode,
 }
 
-/// A bench over a source of seeds: the mode that stands, the flags that are up and the sheet of the last call.
+/// A bench over a source of seeds: the mode that stands, and what the calls work on.
 #[derive(Drop)]
 pub struct Bench<S: Source> {
     standing: ModeRecord,
-    flags: Flags,
-    sheet: Sheet,
-    source: S,
+    desk: Desk<S>,
 }

@@ -5,15 +5,21 @@ ghost use Rattle.registers.specs.declared.mode.Mode.TheVariants.{TowardZero as T
 ghost use Rattle.registers.specs.Binary32.{beside_whole};
 ghost use Rattle.registers.specs.Modes.{rounded};
 ghost use Rattle.sheets.specs.Closed.{closing_size};
+ghost use Rattle.sheets.specs.Operands.{units_of};
 ghost use Rattle.sheets.specs.Written.{values};
-ghost use Rattle.bench.specs.Counts.{count_answer, count_refusal, counted, is_below_zero, with_sign_ℤ};
-ghost use Rattle.bench.specs.Kinds.{units, unsigned};
+ghost use Rattle.bench.specs.Benches.{KeptIfRefused};
+ghost use Rattle.bench.specs.Counts.{count_answer, count_refusal, counted};
+ghost use Rattle.bench.specs.Desks.{SheetAlone};
+ghost use Rattle.bench.specs.Kinds.{units};
+ghost use Rattle.bench.specs.Unless.{unless};
 ghost use Rattle.bench.specs.Worksheets.{CountCloses, CountLeaves, CountLines};
 
-use crate::operand::number_of;
+use crate::desk::Desk;
+use crate::operand::Operand;
 use crate::refusal::Refusal;
-use registers::{Finite, Mode, Pattern, Rounded};
-use sheets::{Closing, Sheet, fill_quotient};
+use crate::whole::{GREATEST, Magnitude};
+use registers::{Finite, Mode, Rounded};
+use sheets::{Closing, fill_quotient};
 use sources::Source;
 
 /// A quotient cut toward zero, and the remainder, which has the dividend's sign.
@@ -23,24 +29,10 @@ pub struct Counted {
     pub remainder: i32,
 }
 
-/// The greatest magnitude of an operand.
-const GREATEST: u32 = 16_777_215;
-
-/// A whole number as a binary32 number.
-fn whole_number(n: u32) -> Finite
-    requires { (0 < n) × (n < 2 ^ 24) }
-    ensures { result.significand * 2 ^ result.exponent ≡ n * 2 ^ 149 }
-{
-    match Finite::new(false, n, 149) {
-        Some(x) => x,
-        None => unreachable(),
-    }
-}
-
 /// The whole part of a number.
 fn whole_part(x: Finite) -> u32
-    requires { x.significand * 2 ^ x.exponent < 2 ^ 24 * 2 ^ 149 }
-    ensures { result ≡ x.significand * 2 ^ x.exponent / 2 ^ 149 }
+    requires { units_of x < 2 ^ 24 * 2 ^ 149 }
+    ensures { result ≡ units_of x / 2 ^ 149 }
 {
     let shift = 149 - x.exponent();
     if shift < 24 {
@@ -50,12 +42,12 @@ fn whole_part(x: Finite) -> u32
     }
 }
 
-/// The whole part of a finite pattern's magnitude.
-fn cut(p: Pattern) -> u32
-    requires { (unsigned p < 0x7F800000) × (units p < 2 ^ 24 * 2 ^ 149) }
-    ensures { result ≡ units p / 2 ^ 149 }
+/// The whole part of an operand's magnitude.
+fn cut(p: Operand) -> u32
+    requires { units p.pattern < 2 ^ 24 * 2 ^ 149 }
+    ensures { result ≡ units p.pattern / 2 ^ 149 }
 {
-    match number_of(p) {
+    match p.number() {
         Some(x) => whole_part(x),
         None => 0,
     }
@@ -68,29 +60,6 @@ fn toward_zero(closing: Closing) -> Rounded
     closing.round(false, Mode::TowardZero)
 }
 
-/// The quotient of magnitudes other than zero, from their sheet.
-fn quotient_of<S: Source>(sheet: &mut Sheet, source: &S, m: u32, n: u32) -> u32
-    requires { (0 < m) × ((m < 2 ^ 24) × ((0 < n) × (n < 2 ^ 24))) }
-    ensures value { result ≡ m / n }
-    ensures sheet { CountCloses (S.Source.reciprocals source.now) m n (values sheet.new) result }
-{
-    let closing = fill_quotient(source, whole_number(m), whole_number(n), sheet);
-    cut(toward_zero(closing).pattern)
-}
-
-/// The quotient of magnitudes. A dividend of zero leaves no line.
-fn count_magnitudes<S: Source>(sheet: &mut Sheet, source: &S, m: u32, n: u32) -> u32
-    requires { (m < 2 ^ 24) × ((0 < n) × (n < 2 ^ 24)) }
-    ensures value { result ≡ m / n }
-    ensures sheet { CountLines (S.Source.reciprocals source.now) m n (values sheet.new) result }
-{
-    if m == 0 {
-        sheet.clear();
-        return 0;
-    }
-    quotient_of(sheet, source, m, n)
-}
-
 /// What a quotient leaves of a dividend.
 fn rest_of(m: u32, n: u32, quotient: u32) -> u32
     requires { (0 < n) × (quotient ≡ m / n) }
@@ -99,66 +68,72 @@ fn rest_of(m: u32, n: u32, quotient: u32) -> u32
     m - quotient * n
 }
 
-/// The whole number of a sign and a magnitude.
-fn signed(negative: bool, magnitude: u32) -> i32
-    requires { magnitude < 2 ^ 24 }
-    ensures { result ≡ with_sign_ℤ negative magnitude }
-{
-    if negative {
-        -(magnitude as i32)
-    } else {
-        magnitude as i32
-    }
-}
-
-/// Whether a whole number is below zero.
-fn is_below_zero(a: i32) -> bool
-    ensures { result ≡ is_below_zero a }
-{
-    a < 0
-}
-
-/// What refuses a count of these magnitudes.
-fn refused(m: u32, n: u32) -> Option<Refusal>
-    ensures { result ≡ count_refusal m n }
+/// Refuses the count of these magnitudes where one is out of range, and else where the divisor is zero.
+fn admit(m: u32, n: u32) -> Result<(), Refusal>
+    ensures { result ≡ unless (count_refusal m n) tt }
 {
     if (m > GREATEST) | (n > GREATEST) {
-        return Some(Refusal::Beyond);
+        return Err(Refusal::Beyond);
     }
     if n == 0 {
-        return Some(Refusal::ZeroDivisor);
+        return Err(Refusal::ZeroDivisor);
     }
-    None
+    Ok(())
 }
 
-/// The count of whole numbers in range.
-fn count_in_range<S: Source>(sheet: &mut Sheet, source: &S, a: i32, b: i32) -> Counted
-    requires { (unsigned_abs a < 2 ^ 24) × ((unsigned_abs b < 2 ^ 24) × (0 < unsigned_abs b)) }
-    ensures value { result ≡ counted a b }
-    ensures sheet { CountLines (S.Source.reciprocals source.now) (unsigned_abs a) (unsigned_abs b) (values sheet.new) (unsigned_abs result.quotient) }
-{
-    let m = a.unsigned_abs();
-    let n = b.unsigned_abs();
-    let whole = count_magnitudes(sheet, source, m, n);
-    let rest = rest_of(m, n, whole);
-    Counted {
-        quotient: signed(is_below_zero(a) != is_below_zero(b), whole),
-        remainder: signed(is_below_zero(a), rest),
+impl<S: Source> Desk<S> {
+    /// The quotient of magnitudes other than zero, from their sheet.
+    fn whole_quotient(&mut self, m: Magnitude, n: Magnitude) -> u32
+        requires { (0 < m.value) × (0 < n.value) }
+        ensures value { result ≡ m.value / n.value }
+        ensures sheet { CountCloses (S.Source.reciprocals self.old.source) m.value n.value (values self.new.sheet) result }
+        ensures kept { SheetAlone self.old self.new }
+    {
+        let dividend = m.number(false).unwrap();
+        let divisor = n.number(false).unwrap();
+        let closing = fill_quotient(&self.source, dividend, divisor, &mut self.sheet);
+        cut(Operand::new(toward_zero(closing).pattern))
     }
-}
 
-/// What the count of `a` by `b` answers, and the sheet that it leaves.
-pub(crate) fn count<S: Source>(
-    sheet: &mut Sheet,
-    source: &S,
-    a: i32,
-    b: i32,
-) -> Result<Counted, Refusal>
-    ensures answer { result ≡ count_answer a b }
-    ensures sheet { CountLeaves (S.Source.reciprocals source.now) a b sheet.old sheet.new result }
-{
-    match refused(a.unsigned_abs(), b.unsigned_abs()) {
-        Some(e) => Err(e),
-        None => Ok(count_in_range(sheet, source, a, b)),
+    /// The quotient of magnitudes. A dividend of zero leaves no line.
+    fn count_magnitudes(&mut self, m: Magnitude, n: Magnitude) -> u32
+        requires { 0 < n.value }
+        ensures value { result ≡ m.value / n.value }
+        ensures sheet { CountLines (S.Source.reciprocals self.old.source) m.value n.value (values self.new.sheet) result }
+        ensures kept { SheetAlone self.old self.new }
+    {
+        if m.value == 0 {
+            self.sheet.clear();
+            return 0;
+        }
+        self.whole_quotient(m, n)
+    }
+
+    /// The count of whole numbers in range.
+    fn count_in_range(&mut self, a: i32, b: i32) -> Counted
+        requires { (unsigned_abs a < 2 ^ 24) × ((unsigned_abs b < 2 ^ 24) × (0 < unsigned_abs b)) }
+        ensures value { result ≡ counted a b }
+        ensures sheet { CountLines (S.Source.reciprocals self.old.source) (unsigned_abs a) (unsigned_abs b) (values self.new.sheet) (unsigned_abs result.quotient) }
+        ensures kept { SheetAlone self.old self.new }
+    {
+        let m = Magnitude::new(a.unsigned_abs());
+        let n = Magnitude::new(b.unsigned_abs());
+        let whole = self.count_magnitudes(m, n);
+        let rest = rest_of(m.value, n.value, whole);
+        Counted {
+            quotient: Magnitude::new(whole).signed(a.is_negative() != b.is_negative()),
+            remainder: Magnitude::new(rest).signed(a.is_negative()),
+        }
+    }
+
+    /// What the count of `a` by `b` answers, and the sheet that it leaves.
+    pub(crate) fn count(&mut self, a: i32, b: i32) -> Result<Counted, Refusal>
+        ensures answer { result ≡ count_answer a b }
+        ensures after { SheetAlone self.old self.new }
+        ensures sheet { CountLeaves (S.Source.reciprocals self.old.source) a b self.old.sheet self.new.sheet result }
+        ensures kept { KeptIfRefused result self.old self.new }
+    {
+        admit(a.unsigned_abs(), b.unsigned_abs())?;
+        Ok(self.count_in_range(a, b))
     }
 }

@@ -1,56 +1,50 @@
 //! The quotient: its sheet, and the closing value rounded once.
 
-ghost use Rattle.std.specs.Prelude.{◌≡◌, ◌<◌};
+ghost use Rattle.std.specs.Prelude.{◌≡◌, not};
+ghost use Rattle.std.specs.Bool.{beq};
 ghost use Rattle.registers.specs.Modes.{rounded};
 ghost use Rattle.sheets.specs.Beside.{beside_quotient};
+ghost use Rattle.sheets.specs.Operands.{units_of};
 ghost use Rattle.sheets.specs.Quotients.{QuotientSheet};
 ghost use Rattle.sheets.specs.Written.{values};
-ghost use Rattle.bench.specs.Calls.{divide_answer};
-ghost use Rattle.bench.specs.Kinds.{signs_differ, units, unsigned};
+ghost use Rattle.bench.specs.Desks.{SheetAlone};
+ghost use Rattle.bench.specs.Kinds.{signs_differ, units};
+ghost use Rattle.bench.specs.Tables.{divide_table, given_out};
+ghost use Rattle.bench.specs.Unless.{unless};
 ghost use Rattle.bench.specs.Worksheets.{Closes, DivideLeaves};
 
-use crate::answer::{Answer, rounded_answer, special_answer};
-use crate::kind::{is_subnormal, signs_differ};
-use crate::operand::nonzero;
+use crate::answer::Special;
+use crate::desk::Desk;
+use crate::operand::Operand;
 use crate::table::divide_table;
-use registers::{Mode, Pattern, Rounded};
-use sheets::{Sheet, fill_quotient};
+use registers::{Finite, Mode, Pattern, Rounded};
+use sheets::fill_quotient;
 use sources::Source;
 
-/// The quotient of finite patterns other than zero.
-fn divide_exact<S: Source>(
-    mode: Mode,
-    sheet: &mut Sheet,
-    source: &S,
-    a: Pattern,
-    b: Pattern,
-) -> Rounded
-    requires dividend { (0 < unsigned a) × (unsigned a < 0x7F800000) }
-    requires divisor { (0 < unsigned b) × (unsigned b < 0x7F800000) }
-    ensures value { result ≡ rounded mode (signs_differ a b) (beside_quotient (units a) (units b)) }
-    ensures sheet { Closes (QuotientSheet (S.Source.reciprocals source.now) (units a) (units b)) mode (signs_differ a b) (values sheet.new) result.pattern }
-{
-    let closing = fill_quotient(source, nonzero(a), nonzero(b), sheet);
-    closing.round(signs_differ(a, b), mode)
-}
+impl<S: Source> Desk<S> {
+    /// The quotient of numbers, rounded in a mode.
+    fn divide_exact(&mut self, mode: Mode, a: Finite, b: Finite) -> Rounded
+        ensures value { result ≡ rounded mode (not (beq a.negative b.negative)) (beside_quotient (units_of a) (units_of b)) }
+        ensures sheet { Closes (QuotientSheet (S.Source.reciprocals self.old.source) (units_of a) (units_of b)) mode (not (beq a.negative b.negative)) (values self.new.sheet) result.pattern }
+        ensures kept { SheetAlone self.old self.new }
+    {
+        let closing = fill_quotient(&self.source, a, b, &mut self.sheet);
+        closing.round(a.is_negative() != b.is_negative(), mode)
+    }
 
-/// What `a / b` answers in a mode, and the sheet that it leaves.
-pub(crate) fn divide<S: Source>(
-    mode: Mode,
-    sheet: &mut Sheet,
-    source: &S,
-    a: Pattern,
-    b: Pattern,
-) -> Answer
-    ensures answer { result ≡ divide_answer mode a b }
-    ensures sheet { DivideLeaves (S.Source.reciprocals source.now) mode a b (values sheet.new) result.pattern }
-{
-    let subnormal = is_subnormal(a) | is_subnormal(b);
-    match divide_table(a, b) {
-        Some(special) => {
-            sheet.clear();
-            special_answer(subnormal, special)
-        }
-        None => rounded_answer(subnormal, divide_exact(mode, sheet, source, a, b)),
+    /// The value of `a / b`, rounded in a mode, or what its table makes of special operands, which leave no line.
+    pub(crate) fn quotient(
+        &mut self,
+        mode: Mode,
+        a: Pattern,
+        b: Pattern,
+    ) -> Result<Rounded, Special>
+        ensures value { result ≡ unless (divide_table a b) (rounded mode (signs_differ a b) (beside_quotient (units a) (units b))) }
+        ensures sheet { DivideLeaves (S.Source.reciprocals self.old.source) mode a b (values self.new.sheet) (given_out result) }
+        ensures kept { SheetAlone self.old self.new }
+    {
+        self.sheet.clear();
+        divide_table(a, b)?;
+        Ok(self.divide_exact(mode, Operand::new(a).nonzero(), Operand::new(b).nonzero()))
     }
 }

@@ -1,10 +1,10 @@
 //! The six flags.
 
 ghost use Rattle.std.specs.Prelude.{◌≡◌};
-ghost use Rattle.bench.specs.Raised.{joined_flags, only_denormal};
+ghost use Rattle.bench.specs.Raised.{joined_flags};
 
 /// The flags that are up.
-#[derive(Clone, Copy, PartialEq, Eq, Debug)]
+#[derive(Clone, Copy, Default, PartialEq, Eq, Debug)]
 pub struct Flags {
     pub invalid: bool,
     pub zero_divide: bool,
@@ -15,20 +15,6 @@ pub struct Flags {
 }
 
 impl Flags {
-    /// No flag but, where `denormal` says so, that one.
-    pub(crate) fn only_denormal(denormal: bool) -> Flags
-        ensures { result ≡ only_denormal denormal }
-    {
-        Flags {
-            invalid: false,
-            zero_divide: false,
-            overflow: false,
-            underflow: false,
-            inexact: false,
-            denormal,
-        }
-    }
-
     /// These flags and those of `other`.
     pub fn joined(self, other: Flags) -> Flags
         ensures { result ≡ joined_flags self other }

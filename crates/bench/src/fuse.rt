@@ -1,14 +1,14 @@
 //! `p·q + r`, rounded once.
 
-ghost use Rattle.std.specs.Prelude.{◌≡◌, ◌*◌, ◌^◌, ◌<◌};
+ghost use Rattle.std.specs.Prelude.{◌≡◌, ◌*◌, ◌^◌};
 ghost use Rattle.registers.specs.Modes.{rounded};
-ghost use Rattle.bench.specs.Calls.{fuse_answer};
-ghost use Rattle.bench.specs.Kinds.{unsigned};
+ghost use Rattle.bench.specs.Tables.{fuse_table};
+ghost use Rattle.bench.specs.Unless.{unless};
 ghost use Rattle.bench.specs.Values.{beside_exact, fuse_sign, fuse_size, zero_rounded, zero_sign};
 
-use crate::answer::{Answer, rounded_answer, special_answer};
-use crate::kind::{is_negative, is_subnormal, signs_differ, zero};
-use crate::operand::register_of;
+use crate::answer::Special;
+use crate::kind::{is_negative, signs_differ, zero};
+use crate::operand::Operand;
 use crate::table::fuse_table;
 use registers::round::round_fused;
 use registers::{Choice, Mode, Pattern, Rounded};
@@ -38,25 +38,24 @@ fn exact_zero(negative: bool) -> Rounded
     }
 }
 
-/// The exact sum of finite patterns, rounded once.
-fn fuse_exact(mode: Mode, p: Pattern, q: Pattern, r: Pattern) -> Rounded
-    requires { (unsigned p < 0x7F800000) × ((unsigned q < 0x7F800000) × (unsigned r < 0x7F800000)) }
-    ensures { result ≡ rounded mode (fuse_sign mode p q r) (beside_exact (fuse_size p q r * 2 ^ 26)) }
+/// The exact sum of operands, rounded once.
+fn fuse_exact(mode: Mode, p: Operand, q: Operand, r: Operand) -> Rounded
+    ensures { result ≡ rounded mode (fuse_sign mode p.pattern q.pattern r.pattern) (beside_exact (fuse_size p.pattern q.pattern r.pattern * 2 ^ 26)) }
 {
-    let addend = register_of(r);
-    match round_fused(addend, Choice::Plus, register_of(p), register_of(q), mode) {
+    let addend = r.register();
+    match round_fused(addend, Choice::Plus, p.register(), q.register(), mode) {
         Some(sum) => sum,
-        None => exact_zero(zero_sign(mode, is_negative(r), signs_differ(p, q))),
+        None => {
+            let product = signs_differ(p.pattern, q.pattern);
+            exact_zero(zero_sign(mode, is_negative(r.pattern), product))
+        }
     }
 }
 
-/// What `p·q + r` answers in a mode.
-pub(crate) fn fuse(mode: Mode, p: Pattern, q: Pattern, r: Pattern) -> Answer
-    ensures { result ≡ fuse_answer mode p q r }
+/// The value of `p·q + r`, rounded in a mode, or what its table makes of special operands.
+pub(crate) fn fused(mode: Mode, p: Pattern, q: Pattern, r: Pattern) -> Result<Rounded, Special>
+    ensures { result ≡ unless (fuse_table p q r) (rounded mode (fuse_sign mode p q r) (beside_exact (fuse_size p q r * 2 ^ 26))) }
 {
-    let subnormal = is_subnormal(p) | is_subnormal(q) | is_subnormal(r);
-    match fuse_table(p, q, r) {
-        Some(special) => special_answer(subnormal, special),
-        None => rounded_answer(subnormal, fuse_exact(mode, p, q, r)),
-    }
+    fuse_table(p, q, r)?;
+    Ok(fuse_exact(mode, Operand::new(p), Operand::new(q), Operand::new(r)))
 }

@@ -17,6 +17,7 @@ pub(crate) fn unsigned(p: Pattern) -> u32
 }
 
 /// Whether the sign bit is set.
+#[tactic(auto, unfolding(crate::specs::Kinds::is_negative))]
 pub(crate) fn is_negative(p: Pattern) -> bool
     ensures { result ≡ is_negative p }
 {
@@ -24,6 +25,7 @@ pub(crate) fn is_negative(p: Pattern) -> bool
 }
 
 /// Whether it is a NaN.
+#[tactic(auto, unfolding(crate::specs::Kinds::is_nan))]
 pub(crate) fn is_nan(p: Pattern) -> bool
     ensures { result ≡ is_nan p }
 {
@@ -31,6 +33,7 @@ pub(crate) fn is_nan(p: Pattern) -> bool
 }
 
 /// Whether it is a signalling NaN: one whose bit 22 is not set.
+#[tactic(auto, unfolding(crate::specs::Kinds::is_signalling))]
 pub(crate) fn is_signalling(p: Pattern) -> bool
     ensures { result ≡ is_signalling p }
 {
@@ -38,6 +41,7 @@ pub(crate) fn is_signalling(p: Pattern) -> bool
 }
 
 /// Whether it is an infinity.
+#[tactic(auto, unfolding(crate::specs::Kinds::is_infinite))]
 pub(crate) fn is_infinite(p: Pattern) -> bool
     ensures { result ≡ is_infinite p }
 {
@@ -45,6 +49,7 @@ pub(crate) fn is_infinite(p: Pattern) -> bool
 }
 
 /// Whether it is a zero.
+#[tactic(auto, unfolding(crate::specs::Kinds::is_zero))]
 pub(crate) fn is_zero(p: Pattern) -> bool
     ensures { result ≡ is_zero p }
 {
@@ -52,6 +57,7 @@ pub(crate) fn is_zero(p: Pattern) -> bool
 }
 
 /// Whether it is a number other than zero below `2^-126`.
+#[tactic(auto, unfolding(crate::specs::Kinds::is_subnormal))]
 pub(crate) fn is_subnormal(p: Pattern) -> bool
     ensures { result ≡ is_subnormal p }
 {
@@ -59,6 +65,7 @@ pub(crate) fn is_subnormal(p: Pattern) -> bool
 }
 
 /// The sign of a product and of a quotient.
+#[tactic(auto, unfolding(crate::specs::Kinds::signs_differ))]
 pub(crate) fn signs_differ(p: Pattern, q: Pattern) -> bool
     ensures { result ≡ signs_differ p q }
 {

@@ -5,13 +5,13 @@
 mod answer;
 pub mod bench;
 pub mod count;
+mod desk;
 mod divide;
 pub mod examples;
 pub mod flags;
 mod fuse;
 mod kind;
 mod operand;
-mod parts;
 pub mod refusal;
 mod remainder;
 mod root;

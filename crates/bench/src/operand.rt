@@ -7,38 +7,49 @@ ghost use Rattle.bench.specs.Kinds.{Stands, is_negative, units, unsigned};
 
 use registers::{Datum, Finite, Number, Pattern, Register};
 
-/// The number that a finite pattern stands for, or nothing where that is zero.
-pub(crate) fn number_of(p: Pattern) -> Option<Finite>
-    requires { unsigned p < 0x7F800000 }
-    ensures { MatchOption result (unsigned p ≡ 0) (λ x. Stands x p) }
-{
-    match p.decode() {
-        Datum::Finite(x) => Some(x),
-        Datum::Zero { negative: _ } => None,
-        Datum::Infinity { negative: _ } => unreachable(),
-        Datum::Nan { quiet: _ } => unreachable(),
-    }
+/// An operand that no row of a table decides: a finite pattern.
+#[derive(Clone, Copy)]
+pub(crate) struct Operand {
+    pub(crate) pattern: Pattern,
+    ghost finite: { unsigned pattern < 0x7F800000 },
 }
 
-/// The number that a finite pattern stands for, which is not zero.
-pub(crate) fn nonzero(p: Pattern) -> Finite
-    requires { (0 < unsigned p) × (unsigned p < 0x7F800000) }
-    ensures { Stands result p }
-{
-    match number_of(p) {
-        Some(x) => x,
-        None => unreachable(),
+impl Operand {
+    /// The operand of a finite pattern.
+    pub(crate) fn new(pattern: Pattern) -> Operand
+        requires { unsigned pattern < 0x7F800000 }
+        ensures { result.pattern ≡ pattern }
+    {
+        Operand { pattern }
     }
-}
 
-/// A finite pattern as a register number, exactly.
-pub(crate) fn register_of(p: Pattern) -> Register
-    requires { unsigned p < 0x7F800000 }
-    ensures size { (value result).units ≡ units p * 2 ^ (bias - 149) }
-    ensures sign { 0 < units p → (value result).negative ≡ is_negative p }
-{
-    match number_of(p) {
-        Some(x) => Register::Nonzero(Number::from_finite(x)),
-        None => Register::Zero,
+    /// The number that it stands for, or nothing where that is zero.
+    pub(crate) fn number(self) -> Option<Finite>
+        ensures { MatchOption result (unsigned self.pattern ≡ 0) (λ x. Stands x self.pattern) }
+    {
+        match self.pattern.decode() {
+            Datum::Finite(x) => Some(x),
+            Datum::Zero { negative: _ } => None,
+            Datum::Infinity { negative: _ } | Datum::Nan { quiet: _ } => unreachable!(),
+        }
+    }
+
+    /// The number that it stands for, which is not zero.
+    pub(crate) fn nonzero(self) -> Finite
+        requires { 0 < unsigned self.pattern }
+        ensures { Stands result self.pattern }
+    {
+        self.number().unwrap()
+    }
+
+    /// It as a register number, exactly.
+    pub(crate) fn register(self) -> Register
+        ensures size { (value result).units ≡ units self.pattern * 2 ^ (bias - 149) }
+        ensures sign { 0 < units self.pattern → (value result).negative ≡ is_negative self.pattern }
+    {
+        match self.number() {
+            Some(x) => Register::Nonzero(Number::from_finite(x)),
+            None => Register::Zero,
+        }
     }
 }

@@ -2,9 +2,10 @@
 
 ghost use Rattle.std.specs.Prelude.{◌≡◌};
 ghost use Rattle.bench.specs.Refused.{number as number_of};
+ghost use Rattle.bench.specs.declared.refusal.Refusal.TheVariants.{Line};
 
 /// Why a call is refused.
-#[derive(Clone, Copy)]
+#[derive(Clone, Copy, PartialEq, Eq, Debug)]
 pub enum Refusal {
     /// A mode's number above 3.
     HighMode,
@@ -27,5 +28,14 @@ impl Refusal {
             Refusal::Beyond => 3,
             Refusal::Line(e) => e.number(),
         }
+    }
+}
+
+impl From<sheets::Refusal> for Refusal {
+    ghost from_gives = { λ e refusal. refusal ≡ Line e };
+
+    /// A question to the sheet, refused.
+    fn from(e: sheets::Refusal) -> Refusal {
+        Refusal::Line(e)
     }
 }

@@ -4,15 +4,16 @@ ghost use Rattle.std.specs.Prelude.{◌≡◌, ℕ, ◌*◌, ◌/◌, ◌%◌, �
 ghost use Rattle.registers.specs.Binary32.{is_odd};
 ghost use Rattle.registers.specs.Coding.{denoted, finite};
 ghost use Rattle.registers.specs.Modes.{rounded};
-ghost use Rattle.bench.specs.Calls.{remainder_answer};
+ghost use Rattle.sheets.specs.Operands.{units_of};
 ghost use Rattle.bench.specs.Kinds.{is_negative, units, unsigned};
 ghost use Rattle.bench.specs.Remainders.{IsNearestQuotient, remainder_size, remainder_turned};
-ghost use Rattle.bench.specs.Tables.{remainder_table};
+ghost use Rattle.bench.specs.Tables.{given_out, remainder_table};
+ghost use Rattle.bench.specs.Unless.{unless};
 ghost use Rattle.bench.specs.Values.{beside_exact, remainder_sign, remainder_units};
 
-use crate::answer::{Answer, rounded_answer, special_answer};
-use crate::kind::{is_negative, is_subnormal};
-use crate::operand::number_of;
+use crate::answer::Special;
+use crate::kind::is_negative;
+use crate::operand::Operand;
 use crate::table::remainder_table;
 use registers::{Datum, Finite, Mode, Pattern, Rounded};
 
@@ -21,34 +22,32 @@ use registers::{Datum, Finite, Mode, Pattern, Rounded};
 struct Scaled {
     significand: u32,
     exponent: u32,
+    ghost form: { (significand < 2 ^ 24) × (exponent ≤ 253) },
 }
 
-/// The magnitude of a finite pattern.
-fn magnitude_of(p: Pattern) -> Scaled
-    requires { unsigned p < 0x7F800000 }
-    ensures size { result.significand * 2 ^ result.exponent ≡ units p }
-    ensures few { result.significand < 2 ^ 24 }
-    ensures low { result.exponent ≤ 253 }
-    ensures full { 0 < result.exponent → 2 ^ 23 ≤ result.significand }
-    ensures some { 0 < unsigned p → 0 < result.significand }
+/// The magnitude of an operand.
+fn magnitude_of(p: Operand) -> Scaled
+    ensures { result.significand * 2 ^ result.exponent ≡ units p.pattern }
 {
-    match number_of(p) {
-        Some(x) => Scaled {
-            significand: x.significand(),
-            exponent: x.exponent(),
-        },
-        None => Scaled {
+    let Some(x) = p.number() else {
+        return Scaled {
             significand: 0,
             exponent: 0,
-        },
+        };
+    };
+    Scaled {
+        significand: x.significand(),
+        exponent: x.exponent(),
     }
 }
 
-/// What is left of a division, and whether its quotient is odd.
+/// What is left of a division by a divisor, and whether its quotient is odd.
 #[derive(Clone, Copy)]
 struct Left {
     rest: u32,
     odd: bool,
+    divisor: u32,
+    ghost short: { (rest < divisor) × (divisor < 2 ^ 25) },
 }
 
 /// The division of `n · 2^turns` by `m`, one doubling a turn.
@@ -56,6 +55,7 @@ fn divide_doubling(n: u32, turns: u32, m: u32) -> Left
     requires { (0 < m) × (m < 2 ^ 25) }
     ensures rest { result.rest ≡ n * 2 ^ turns % m }
     ensures odd { result.odd ≡ is_odd (n * 2 ^ turns / m) }
+    ensures divisor { result.divisor ≡ m }
 {
     let mut rest = n % m;
     let mut odd = n / m % 2 == 1;
@@ -64,7 +64,11 @@ fn divide_doubling(n: u32, turns: u32, m: u32) -> Left
         odd = twice >= m;
         rest = if odd { twice - m } else { twice };
     }
-    Left { rest, odd }
+    Left {
+        rest,
+        odd,
+        divisor: m,
+    }
 }
 
 /// The magnitude of a remainder, and whether its sign is turned from the dividend's.
@@ -74,56 +78,58 @@ struct Difference {
     size: Scaled,
 }
 
-/// Whether the quotient goes up to the nearest whole number, a tie going to the even one.
-fn goes_up(left: Left, m: u32) -> bool
-    requires { (left.rest < m) × (m < 2 ^ 25) }
-    ensures { result ≡ (if nat_eq (2 * left.rest) m then left.odd else nat_lt m (2 * left.rest)) }
-{
-    let twice = 2 * left.rest;
-    if twice == m { left.odd } else { twice > m }
-}
+impl Left {
+    /// Whether the quotient goes up to the nearest whole number, a tie going to the even one.
+    fn goes_up(self) -> bool
+        ensures { result ≡ (if nat_eq (2 * self.rest) self.divisor then self.odd else nat_lt self.divisor (2 * self.rest)) }
+    {
+        let twice = 2 * self.rest;
+        if twice == self.divisor {
+            self.odd
+        } else {
+            twice > self.divisor
+        }
+    }
 
-/// The nearest step at the end of a division by `m` units of `2^exponent`.
-fn nearest_rest(left: Left, m: u32, exponent: u32) -> Difference
-    requires { (left.rest < m) × (m < 2 ^ 25) }
-    ensures size { (x : ℕ) → left.rest ≡ x % m → left.odd ≡ is_odd (x / m) → (result.size.significand ≡ remainder_size x m) × (result.turned ≡ remainder_turned x m) }
-    ensures less { (2 * result.size.significand ≤ m) × (result.size.significand ≤ left.rest) }
-    ensures exponent { result.size.exponent ≡ exponent }
-{
-    let turned = goes_up(left, m);
-    let significand = if turned { m - left.rest } else { left.rest };
-    Difference {
-        turned,
-        size: Scaled {
-            significand,
-            exponent,
-        },
+    /// The nearest step at the end of a division by that many units of `2^exponent`.
+    fn nearest(self, exponent: u32) -> Difference
+        requires { exponent ≤ 253 }
+        ensures size { (x : ℕ) → self.rest ≡ x % self.divisor → self.odd ≡ is_odd (x / self.divisor) → (result.size.significand ≡ remainder_size x self.divisor) × (result.turned ≡ remainder_turned x self.divisor) }
+        ensures exponent { result.size.exponent ≡ exponent }
+    {
+        let turned = self.goes_up();
+        let significand = if turned {
+            self.divisor - self.rest
+        } else {
+            self.rest
+        };
+        Difference {
+            turned,
+            size: Scaled {
+                significand,
+                exponent,
+            },
+        }
     }
 }
 
-/// The remainder of magnitudes.
-fn remainder_scaled(x: Scaled, y: Scaled) -> Difference
-    requires few { (x.significand < 2 ^ 24) × ((y.significand < 2 ^ 24) × (0 < y.significand)) }
-    requires low { (x.exponent ≤ 253) × (y.exponent ≤ 253) }
-    requires full { 0 < y.exponent → 2 ^ 23 ≤ y.significand }
-    ensures size { result.size.significand * 2 ^ result.size.exponent ≡ remainder_size (x.significand * 2 ^ x.exponent) (y.significand * 2 ^ y.exponent) }
-    ensures turned { result.turned ≡ remainder_turned (x.significand * 2 ^ x.exponent) (y.significand * 2 ^ y.exponent) }
-    ensures few { result.size.significand < 2 ^ 24 }
-    ensures low { result.size.exponent ≤ 253 }
+/// The remainder of a magnitude by that of a number.
+fn remainder_scaled(x: Scaled, y: Finite) -> Difference
+    ensures size { result.size.significand * 2 ^ result.size.exponent ≡ remainder_size (x.significand * 2 ^ x.exponent) (units_of y) }
+    ensures turned { result.turned ≡ remainder_turned (x.significand * 2 ^ x.exponent) (units_of y) }
 {
-    if x.exponent + 1 < y.exponent {
+    let exponent = y.exponent();
+    let m = y.significand();
+    if x.exponent + 1 < exponent {
         return Difference {
             turned: false,
             size: x,
         };
     }
-    if x.exponent < y.exponent {
-        let m = 2 * y.significand;
-        let left = divide_doubling(x.significand, 0, m);
-        return nearest_rest(left, m, x.exponent);
+    if x.exponent < exponent {
+        return divide_doubling(x.significand, 0, 2 * m).nearest(x.exponent);
     }
-    let left = divide_doubling(x.significand, x.exponent - y.exponent, y.significand);
-    nearest_rest(left, y.significand, y.exponent)
+    divide_doubling(x.significand, x.exponent - exponent, m).nearest(exponent)
 }
 
 /// A sign, turned where `turned` says so.
@@ -135,7 +141,6 @@ fn turn(negative: bool, turned: bool) -> bool
 
 /// A sign and a magnitude as a datum.
 fn datum(negative: bool, size: Scaled) -> Datum
-    requires { (size.significand < 2 ^ 24) × (size.exponent ≤ 253) }
     ensures { denoted result ≡ finite negative (size.significand * 2 ^ size.exponent) }
 {
     match Finite::new(negative, size.significand, size.exponent) {
@@ -144,13 +149,13 @@ fn datum(negative: bool, size: Scaled) -> Datum
     }
 }
 
-/// The remainder of finite patterns, exactly.
-fn remainder_exact(x: Pattern, y: Pattern) -> Datum
-    requires { (unsigned x < 0x7F800000) × ((unsigned y < 0x7F800000) × (0 < unsigned y)) }
-    ensures { denoted result ≡ finite (remainder_sign x y) (remainder_units x y) }
+/// The remainder of operands, exactly.
+fn remainder_exact(x: Operand, y: Operand) -> Datum
+    requires { 0 < unsigned y.pattern }
+    ensures { denoted result ≡ finite (remainder_sign x.pattern y.pattern) (remainder_units x.pattern y.pattern) }
 {
-    let z = remainder_scaled(magnitude_of(x), magnitude_of(y));
-    datum(turn(is_negative(x), z.turned), z.size)
+    let z = remainder_scaled(magnitude_of(x), y.nonzero());
+    datum(turn(is_negative(x.pattern), z.turned), z.size)
 }
 
 /// A finite number rounded in any mode: it is its own pattern, with no flag.
@@ -166,15 +171,12 @@ fn exactly(x: Datum) -> Rounded
     }
 }
 
-/// What the remainder of `x` by `y` answers, in every mode.
-pub(crate) fn remainder(x: Pattern, y: Pattern) -> Answer
-    ensures answer { (mode : Mode) → result ≡ remainder_answer mode x y }
-    ensures exact { NoneCase ≡ remainder_table x y → (units result.pattern ≡ remainder_units x y) × (is_negative result.pattern ≡ remainder_sign x y) }
+/// The remainder of `x` by `y`, which is the same in every mode, or what its table makes of special operands.
+pub(crate) fn remainder(x: Pattern, y: Pattern) -> Result<Rounded, Special>
+    ensures value { (mode : Mode) → result ≡ unless (remainder_table x y) (rounded mode (remainder_sign x y) (beside_exact (remainder_units x y * 2 ^ 175))) }
+    ensures exact { NoneCase ≡ remainder_table x y → (units (given_out result) ≡ remainder_units x y) × (is_negative (given_out result) ≡ remainder_sign x y) }
     ensures nearest { IsNearestQuotient }
 {
-    let subnormal = is_subnormal(x) | is_subnormal(y);
-    match remainder_table(x, y) {
-        Some(special) => special_answer(subnormal, special),
-        None => rounded_answer(subnormal, exactly(remainder_exact(x, y))),
-    }
+    remainder_table(x, y)?;
+    Ok(exactly(remainder_exact(Operand::new(x), Operand::new(y))))
 }

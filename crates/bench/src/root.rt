@@ -1,43 +1,44 @@
 //! The root: its sheet, and the closing value rounded once.
 
-ghost use Rattle.std.specs.Prelude.{◌≡◌, ◌<◌, false};
+ghost use Rattle.std.specs.Prelude.{◌≡◌, false};
 ghost use Rattle.registers.specs.Modes.{rounded};
 ghost use Rattle.sheets.specs.Beside.{beside_root};
+ghost use Rattle.sheets.specs.Operands.{units_of};
 ghost use Rattle.sheets.specs.Roots.{RootSheet};
 ghost use Rattle.sheets.specs.Written.{values};
-ghost use Rattle.bench.specs.Calls.{root_answer};
-ghost use Rattle.bench.specs.Kinds.{units, unsigned};
+ghost use Rattle.bench.specs.Desks.{SheetAlone};
+ghost use Rattle.bench.specs.Kinds.{units};
+ghost use Rattle.bench.specs.Tables.{given_out, root_table};
+ghost use Rattle.bench.specs.Unless.{unless};
 ghost use Rattle.bench.specs.Worksheets.{Closes, RootLeaves};
 
-use crate::answer::{Answer, rounded_answer, special_answer};
-use crate::kind::is_subnormal;
-use crate::operand::nonzero;
+use crate::answer::Special;
+use crate::desk::Desk;
+use crate::operand::Operand;
 use crate::table::root_table;
-use registers::{Mode, Pattern, Rounded};
-use sheets::{Sheet, fill_root};
+use registers::{Finite, Mode, Pattern, Rounded};
+use sheets::fill_root;
 use sources::Source;
 
-/// The root of a finite pattern's magnitude, which is not zero.
-fn root_exact<S: Source>(mode: Mode, sheet: &mut Sheet, source: &S, a: Pattern) -> Rounded
-    requires { (0 < unsigned a) × (unsigned a < 0x7F800000) }
-    ensures value { result ≡ rounded mode false (beside_root (units a)) }
-    ensures sheet { Closes (RootSheet (S.Source.roots source.now) (units a)) mode false (values sheet.new) result.pattern }
-{
-    let closing = fill_root(source, nonzero(a), sheet);
-    closing.round(false, mode)
-}
+impl<S: Source> Desk<S> {
+    /// The root of a number's magnitude, rounded in a mode.
+    fn root_exact(&mut self, mode: Mode, a: Finite) -> Rounded
+        ensures value { result ≡ rounded mode false (beside_root (units_of a)) }
+        ensures sheet { Closes (RootSheet (S.Source.roots self.old.source) (units_of a)) mode false (values self.new.sheet) result.pattern }
+        ensures kept { SheetAlone self.old self.new }
+    {
+        let closing = fill_root(&self.source, a, &mut self.sheet);
+        closing.round(false, mode)
+    }
 
-/// What the root of `a` answers in a mode, and the sheet that it leaves.
-pub(crate) fn root<S: Source>(mode: Mode, sheet: &mut Sheet, source: &S, a: Pattern) -> Answer
-    ensures answer { result ≡ root_answer mode a }
-    ensures sheet { RootLeaves (S.Source.roots source.now) mode a (values sheet.new) result.pattern }
-{
-    let subnormal = is_subnormal(a);
-    match root_table(a) {
-        Some(special) => {
-            sheet.clear();
-            special_answer(subnormal, special)
-        }
-        None => rounded_answer(subnormal, root_exact(mode, sheet, source, a)),
+    /// The root of `a`, rounded in a mode, or what its table makes of a special operand, which leaves no line.
+    pub(crate) fn rooted(&mut self, mode: Mode, a: Pattern) -> Result<Rounded, Special>
+        ensures value { result ≡ unless (root_table a) (rounded mode false (beside_root (units a))) }
+        ensures sheet { RootLeaves (S.Source.roots self.old.source) mode a (values self.new.sheet) (given_out result) }
+        ensures kept { SheetAlone self.old self.new }
+    {
+        self.sheet.clear();
+        root_table(a)?;
+        Ok(self.root_exact(mode, Operand::new(a).nonzero()))
     }
 }

@@ -1,7 +1,8 @@
-//! The tables of special operands: the first row that fits decides.
+//! The tables of special operands: the first row that fits decides, and is the error where one does.
 
 ghost use Rattle.std.specs.Prelude.{◌≡◌};
 ghost use Rattle.bench.specs.Tables.{divide_table, fuse_table, remainder_table, root_table};
+ghost use Rattle.bench.specs.Unless.{unless};
 
 use crate::answer::Special;
 use crate::kind::{
@@ -10,102 +11,101 @@ use crate::kind::{
 use registers::Pattern;
 
 /// The table of `p·q + r`.
-pub(crate) fn fuse_table(p: Pattern, q: Pattern, r: Pattern) -> Option<Special>
-    ensures { result ≡ fuse_table p q r }
+pub(crate) fn fuse_table(p: Pattern, q: Pattern, r: Pattern) -> Result<(), Special>
+    ensures { result ≡ unless (fuse_table p q r) tt }
 {
     let negative = signs_differ(p, q);
     let infinite = is_infinite(p) | is_infinite(q);
     if is_signalling(p) | is_signalling(q) | is_signalling(r) {
-        return Some(Special::Invalid);
+        return Err(Special::Invalid);
     }
     if is_infinite(p) & is_zero(q) {
-        return Some(Special::Invalid);
+        return Err(Special::Invalid);
     }
     if is_zero(p) & is_infinite(q) {
-        return Some(Special::Invalid);
+        return Err(Special::Invalid);
     }
     if is_nan(p) | is_nan(q) | is_nan(r) {
-        return Some(Special::Quiet);
+        return Err(Special::Quiet);
     }
     if infinite & is_infinite(r) & (negative != is_negative(r)) {
-        return Some(Special::Invalid);
+        return Err(Special::Invalid);
     }
     if infinite {
-        return Some(Special::Given(infinity(negative)));
+        return Err(Special::Given(infinity(negative)));
     }
     if is_infinite(r) {
-        Some(Special::Given(r))
-    } else {
-        None
+        return Err(Special::Given(r));
     }
+    Ok(())
 }
 
 /// The table of `a / b`.
-pub(crate) fn divide_table(a: Pattern, b: Pattern) -> Option<Special>
-    ensures { result ≡ divide_table a b }
+pub(crate) fn divide_table(a: Pattern, b: Pattern) -> Result<(), Special>
+    ensures { result ≡ unless (divide_table a b) tt }
 {
     let negative = signs_differ(a, b);
     if is_signalling(a) | is_signalling(b) {
-        return Some(Special::Invalid);
+        return Err(Special::Invalid);
     }
     if is_nan(a) | is_nan(b) {
-        return Some(Special::Quiet);
+        return Err(Special::Quiet);
     }
     if is_infinite(a) & is_infinite(b) {
-        return Some(Special::Invalid);
+        return Err(Special::Invalid);
     }
     if is_zero(a) & is_zero(b) {
-        return Some(Special::Invalid);
+        return Err(Special::Invalid);
     }
     if is_infinite(a) {
-        return Some(Special::Given(infinity(negative)));
+        return Err(Special::Given(infinity(negative)));
     }
     if is_infinite(b) | is_zero(a) {
-        return Some(Special::Given(zero(negative)));
+        return Err(Special::Given(zero(negative)));
     }
     if is_zero(b) {
-        return Some(Special::ByZero(infinity(negative)));
+        return Err(Special::ByZero(infinity(negative)));
     }
-    None
+    Ok(())
 }
 
 /// The table of the root of `a`.
-pub(crate) fn root_table(a: Pattern) -> Option<Special>
-    ensures { result ≡ root_table a }
+pub(crate) fn root_table(a: Pattern) -> Result<(), Special>
+    ensures { result ≡ unless (root_table a) tt }
 {
     if is_signalling(a) {
-        return Some(Special::Invalid);
+        return Err(Special::Invalid);
     }
     if is_nan(a) {
-        return Some(Special::Quiet);
+        return Err(Special::Quiet);
     }
     if is_zero(a) {
-        return Some(Special::Given(a));
+        return Err(Special::Given(a));
     }
     if is_negative(a) {
-        return Some(Special::Invalid);
+        return Err(Special::Invalid);
     }
     if is_infinite(a) {
-        return Some(Special::Given(a));
+        return Err(Special::Given(a));
     }
-    None
+    Ok(())
 }
 
 /// The table of the remainder of `x` by `y`.
-pub(crate) fn remainder_table(x: Pattern, y: Pattern) -> Option<Special>
-    ensures { result ≡ remainder_table x y }
+pub(crate) fn remainder_table(x: Pattern, y: Pattern) -> Result<(), Special>
+    ensures { result ≡ unless (remainder_table x y) tt }
 {
     if is_signalling(x) | is_signalling(y) {
-        return Some(Special::Invalid);
+        return Err(Special::Invalid);
     }
     if is_nan(x) | is_nan(y) {
-        return Some(Special::Quiet);
+        return Err(Special::Quiet);
     }
     if is_infinite(x) | is_zero(y) {
-        return Some(Special::Invalid);
+        return Err(Special::Invalid);
     }
     if is_infinite(y) {
-        return Some(Special::Given(x));
+        return Err(Special::Given(x));
     }
-    None
+    Ok(())
 }

@@ -1,39 +1,63 @@
 //! Whole numbers as patterns.
 
 ghost use Rattle.std.specs.Prelude.{◌≡◌, ◌*◌, ◌^◌, ◌<◌, ◌≤◌, MatchOption, nat_lt, unsigned_abs};
-ghost use Rattle.registers.specs.Coding.{encoded};
+ghost use Rattle.registers.specs.Coding.{encoded, finite, finite_meaning};
 ghost use Rattle.registers.specs.Modes.{with_sign};
-ghost use Rattle.bench.specs.Counts.{greatest, is_below_zero};
+ghost use Rattle.bench.specs.Counts.{greatest, with_sign_ℤ};
 ghost use Rattle.bench.specs.Distances.{whole_pattern};
 
 use registers::{Datum, Finite, Pattern};
 
 /// The greatest magnitude, which 24 bits hold.
-const GREATEST: u64 = 16_777_215;
+pub(crate) const GREATEST: u32 = 16_777_215;
 
-/// The pattern of a sign and a whole magnitude.
-fn pattern_of(negative: bool, magnitude: u32) -> Pattern
-    requires { magnitude < 2 ^ 24 }
-    ensures { result.bits ≡ with_sign negative (encoded (magnitude * 2 ^ 149)) }
-{
-    match Finite::new(negative, magnitude, 149) {
-        Some(x) => Datum::Finite(x).encode(),
-        None => Datum::Zero { negative }.encode(),
-    }
+/// The magnitude of a whole number within ±16,777,215.
+#[derive(Clone, Copy)]
+pub(crate) struct Magnitude {
+    pub(crate) value: u32,
+    ghost few: { value < 2 ^ 24 },
 }
 
-/// Whether a whole number is below zero.
-fn is_below_zero(n: i64) -> bool
-    ensures { result ≡ is_below_zero n }
-{
-    n < 0
+impl Magnitude {
+    /// The magnitude of this value.
+    pub(crate) fn new(value: u32) -> Magnitude
+        requires { value < 2 ^ 24 }
+        ensures { result.value ≡ value }
+    {
+        Magnitude { value }
+    }
+
+    /// The number of a sign and this magnitude, or nothing where that is zero.
+    pub(crate) fn number(self, negative: bool) -> Option<Finite>
+        ensures { MatchOption result (self.value ≡ 0) (λ x. finite_meaning x ≡ finite negative (self.value * 2 ^ 149)) }
+    {
+        Finite::new(negative, self.value, 149)
+    }
+
+    /// The pattern of a sign and this magnitude.
+    fn pattern(self, negative: bool) -> Pattern
+        ensures { result.bits ≡ with_sign negative (encoded (self.value * 2 ^ 149)) }
+    {
+        match self.number(negative) {
+            Some(x) => Datum::Finite(x).encode(),
+            None => Datum::Zero { negative }.encode(),
+        }
+    }
+
+    /// The whole number of a sign and this magnitude.
+    pub(crate) fn signed(self, negative: bool) -> i32
+        ensures { result ≡ with_sign_ℤ negative self.value }
+    {
+        let magnitude = self.value as i32;
+        if negative { -magnitude } else { magnitude }
+    }
 }
 
 /// Whether a whole number is beyond ±16,777,215.
 pub(crate) fn is_beyond(n: i64) -> bool
     ensures { result ≡ nat_lt greatest (unsigned_abs n) }
 {
-    n.unsigned_abs() > GREATEST
+    n.unsigned_abs() > GREATEST as u64
 }
 
 /// The pattern of a whole number within ±16,777,215.
@@ -41,7 +65,7 @@ pub(crate) fn whole(n: i64) -> Pattern
     requires { unsigned_abs n ≤ greatest }
     ensures { result ≡ whole_pattern n }
 {
-    pattern_of(is_below_zero(n), n.unsigned_abs() as u32)
+    Magnitude::new(n.unsigned_abs() as u32).pattern(n.is_negative())
 }
 
 /// The pattern of a whole number, or nothing beyond ±16,777,215.

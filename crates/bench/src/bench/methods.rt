@@ -14,23 +14,13 @@ ghost use Rattle.bench.specs.Values.{remainder_sign, remainder_units};
 ghost use Rattle.bench.specs.Worksheets.{CountLeaves, DivideLeaves, RootLeaves};
 
 use crate::bench::{Bench, ModeRecord};
-use crate::count::{Counted, count};
+use crate::count::Counted;
+use crate::desk::Desk;
 use crate::flags::Flags;
-use crate::parts::{divide_in, fuse_in, remainder_in, root_in};
 use crate::refusal::Refusal;
 use registers::{Mode, Pattern, Register};
 use sheets::Sheet;
 use sources::Source;
-
-/// A line, or the bench's refusal of it.
-fn asked(line: Result<Register, sheets::Refusal>) -> Result<Register, Refusal>
-    ensures { result ≡ from_sheet line }
-{
-    match line {
-        Ok(x) => Ok(x),
-        Err(e) => Err(Refusal::Line(e)),
-    }
-}
 
 impl<S: Source> Bench<S> {
     /// A bench over a source: mode 0, no flags and an empty sheet.
@@ -41,9 +31,11 @@ impl<S: Source> Bench<S> {
             standing: ModeRecord {
                 mode: Mode::NearestEven,
             },
-            flags: Flags::only_denormal(false),
-            sheet: Sheet::new(),
-            source,
+            desk: Desk {
+                flags: Flags::default(),
+                sheet: Sheet::new(),
+                source,
+            },
         }
     }
 
@@ -57,31 +49,31 @@ impl<S: Source> Bench<S> {
 
     /// The flags that are up.
     pub fn flags(&self) -> Flags
-        ensures { result ≡ self.now.flags }
+        ensures { result ≡ self.now.desk.flags }
     {
-        let raised = self.flags;
+        let raised = self.desk.flags;
         raised
     }
 
     /// How many lines the sheet has.
     pub fn lines(&self) -> usize
-        ensures { result ≡ length (written self.now.sheet) }
+        ensures { result ≡ length (written self.now.desk.sheet) }
     {
-        self.sheet.count()
+        self.desk.sheet.count()
     }
 
     /// The line of a number, counted from 1. Refused where there is no such line.
     pub fn line(&self, n: usize) -> Result<Register, Refusal>
-        ensures { result ≡ from_sheet (line_at (written self.now.sheet) n) }
+        ensures { result ≡ from_sheet (line_at (written self.now.desk.sheet) n) }
     {
-        asked(self.sheet.line(n))
+        Ok(self.desk.sheet.line(n)?)
     }
 
     /// The last line, or nothing where the sheet is empty.
     pub fn last(&self) -> Option<Register>
-        ensures { result ≡ last_of (written self.now.sheet) }
+        ensures { result ≡ last_of (written self.now.desk.sheet) }
     {
-        self.sheet.last()
+        self.desk.sheet.last()
     }
 
     /// Sets the mode by its number: 0 nearest with ties to even, 1 down, 2 up, 3 toward zero. Refused above 3.
@@ -89,78 +81,53 @@ impl<S: Source> Bench<S> {
         ensures answer { result ≡ set_answer (mode_of number) }
         ensures after { self.new ≡ with_mode (mode_of number) self.old }
     {
-        match Mode::from_number(number) {
-            Some(mode) => {
-                self.standing.mode = mode;
-                Ok(())
-            }
-            None => Err(Refusal::HighMode),
-        }
+        self.standing.mode = Mode::from_number(number).ok_or(Refusal::HighMode)?;
+        Ok(())
     }
 
     /// Takes all flags down.
     pub fn clear(&mut self)
         ensures { self.new ≡ cleared self.old }
     {
-        self.flags = Flags::only_denormal(false);
+        self.desk.flags = Flags::default();
     }
 
     /// `p·q + r`, rounded once. It leaves an empty sheet.
     pub fn fuse(&mut self, p: Pattern, q: Pattern, r: Pattern) -> Pattern
         ensures answer { result ≡ (fuse_answer (standing_mode self.old) p q r).pattern }
         ensures after { Raises (fuse_answer (standing_mode self.old) p q r).flags self.old self.new }
-        ensures sheet { written self.new.sheet ≡ [] }
+        ensures sheet { written self.new.desk.sheet ≡ [] }
     {
-        fuse_in(
-            self.standing.mode,
-            &mut self.flags,
-            &mut self.sheet,
-            p,
-            q,
-            r,
-        )
+        self.desk.fuse(self.standing.mode, p, q, r)
     }
 
     /// `a / b`, rounded once from the closing value of its sheet.
     pub fn divide(&mut self, a: Pattern, b: Pattern) -> Pattern
         ensures answer { result ≡ (divide_answer (standing_mode self.old) a b).pattern }
         ensures after { Raises (divide_answer (standing_mode self.old) a b).flags self.old self.new }
-        ensures sheet { DivideLeaves (S.Source.reciprocals self.old.source) (standing_mode self.old) a b (values self.new.sheet) result }
+        ensures sheet { DivideLeaves (S.Source.reciprocals self.old.desk.source) (standing_mode self.old) a b (values self.new.desk.sheet) result }
     {
-        divide_in(
-            self.standing.mode,
-            &mut self.flags,
-            &mut self.sheet,
-            &self.source,
-            a,
-            b,
-        )
+        self.desk.divide(self.standing.mode, a, b)
     }
 
     /// The root of `a`, rounded once from the closing value of its sheet.
     pub fn root(&mut self, a: Pattern) -> Pattern
         ensures answer { result ≡ (root_answer (standing_mode self.old) a).pattern }
         ensures after { Raises (root_answer (standing_mode self.old) a).flags self.old self.new }
-        ensures sheet { RootLeaves (S.Source.roots self.old.source) (standing_mode self.old) a (values self.new.sheet) result }
+        ensures sheet { RootLeaves (S.Source.roots self.old.desk.source) (standing_mode self.old) a (values self.new.desk.sheet) result }
     {
-        root_in(
-            self.standing.mode,
-            &mut self.flags,
-            &mut self.sheet,
-            &self.source,
-            a,
-        )
+        self.desk.root(self.standing.mode, a)
     }
 
     /// The remainder `x - n·y`, `n` the whole number nearest to `x / y`, a tie going to the even one. It leaves an empty sheet.
     pub fn remainder(&mut self, x: Pattern, y: Pattern) -> Pattern
         ensures answer { result ≡ (remainder_answer (standing_mode self.old) x y).pattern }
         ensures after { Raises (remainder_answer (standing_mode self.old) x y).flags self.old self.new }
-        ensures sheet { written self.new.sheet ≡ [] }
+        ensures sheet { written self.new.desk.sheet ≡ [] }
         ensures exact { NoneCase ≡ remainder_table x y → (units result ≡ remainder_units x y) × (is_negative result ≡ remainder_sign x y) }
         ensures nearest { IsNearestQuotient }
     {
-        remainder_in(&mut self.flags, &mut self.sheet, x, y)
+        self.desk.remainder(x, y)
     }
 
     /// The quotient of two whole numbers, cut toward zero, from the closing value of the sheet of their magnitudes, and the remainder.
@@ -168,9 +135,9 @@ impl<S: Source> Bench<S> {
     pub fn count(&mut self, a: i32, b: i32) -> Result<Counted, Refusal>
         ensures answer { result ≡ count_answer a b }
         ensures after { SheetOnly self.old self.new }
-        ensures sheet { CountLeaves (S.Source.reciprocals self.old.source) a b self.old.sheet self.new.sheet result }
+        ensures sheet { CountLeaves (S.Source.reciprocals self.old.desk.source) a b self.old.desk.sheet self.new.desk.sheet result }
         ensures kept { KeptIfRefused result self.old self.new }
     {
-        count(&mut self.sheet, &self.source, a, b)
+        self.desk.count(a, b)
     }
 }

@@ -1,31 +1,22 @@
-use Rattle.std.proofs.Common.{ap, ◌∙◌}
-use Rattle.bench.specs.declared.answer.Answer.{Answer}
-use Rattle.bench.specs.Calls.{remainder_answer}
-use Rattle.bench.specs.Kinds.{is_negative, units}
+use Rattle.std.proofs.Common.{◌<◌, subst, sym}
+use Rattle.registers.specs.declared.pattern.Pattern.{Pattern}
+use Rattle.bench.specs.Kinds.{unsigned}
 use Rattle.bench.proofs.Nearing.{nearest_quotient_lem}
-use Rattle.bench.proofs.Verdicts.{any_two, by_row, by_value, not_both, remainder_operands}
+use Rattle.bench.proofs.Verdicts.{remainder_operands, undecided}
 use Rattle.bench.proofs.remainder.remainder.Goals as goal
+
+pub returns-in_err-remainder_table-clause-nearest : goal.returns-in_err-remainder_table-clause-nearest
+returns-in_err-remainder_table-clause-nearest c = nearest_quotient_lem
+
+pub new-requires : goal.new-requires
+new-requires c = (remainder_operands c.args.x c.args.y (undecided _ _ _ c.in_ok-remainder_table.ensures)).0
+
+pub new-requires-2 : goal.new-requires-2
+new-requires-2 c = (remainder_operands c.args.x c.args.y (undecided _ _ _ c.in_ok-remainder_table.ensures)).1
 
 pub remainder_exact-requires : goal.remainder_exact-requires
 remainder_exact-requires c =
-    let o = remainder_operands c.args.x c.args.y c.in-None.ensures in
-    (o.0, (o.1, o.2))
+    subst (λ (p : Pattern). 0 < unsigned p) (sym c.new-2.ensures) (remainder_operands c.args.x c.args.y (undecided _ _ _ c.in_ok-remainder_table.ensures)).2
 
-pub returns-in-Some : goal.returns-in-Some
-unfolding remainder_answer
-returns-in-Some c = record {
-  answer = λ mode. c.special_answer.ensures ∙ by_row _ _ _ _ _ (any_two _ _ _ _ c.is_subnormal.ensures c.is_subnormal-2.ensures) c.in-Some.ensures;
-  exact = λ e. absurd (not_both _ _ c.in-Some.ensures e);
-  nearest = nearest_quotient_lem;
-}
-
-pub returns-in-None : goal.returns-in-None
-unfolding remainder_answer
-returns-in-None c =
-    let p = c.exactly.ensures.parts _ _ c.remainder_exact.ensures in
-    let a = ap (λ (r : Answer). r.pattern) c.rounded_answer.ensures in
-    record {
-      answer = λ mode. c.rounded_answer.ensures ∙ by_value _ _ _ _ _ (any_two _ _ _ _ c.is_subnormal.ensures c.is_subnormal-2.ensures) c.in-None.ensures (c.exactly.ensures.rounds mode _ _ c.remainder_exact.ensures);
-      exact = λ e. (ap units a ∙ p.0, ap is_negative a ∙ p.1);
-      nearest = nearest_quotient_lem;
-    }
+pub returns-clause-nearest : goal.returns-clause-nearest
+returns-clause-nearest c = nearest_quotient_lem

@@ -1,13 +1,14 @@
 use Rattle.std.proofs.Common.{◌≡◌, ℕ, nat_abs, refl, ap, ◌∙◌, w64}
 use Rattle.std.proofs.lemmas.Int.{to_z-of_z}
-use Rattle.bench.specs.Counts.{is_below_zero}
+use Rattle.std.specs.Int.{is_negative}
 use Rattle.bench.specs.Distances.{whole_pattern}
+use Rattle.bench.proofs.Counting.{negative_is}
 use Rattle.bench.proofs.whole.whole.Goals as goal
 
 pub returns : goal.returns
 unfolding whole_pattern
 returns c =
     let z = to_z-of_z w64 c.args.n c.ranges.n in
-    let m : c.unsigned_abs.result ≡ nat_abs c.args.n = c.unsigned_abs.ensures.value ∙ ap nat_abs z in
-    let s = c.is_below_zero.ensures ∙ ap is_below_zero z in
-    ap (λ (b : ℕ). record { bits = b }) (c.pattern_of.ensures ∙ rw (s, m) refl)
+    let m : c.new.result.value ≡ nat_abs c.args.n = c.new.ensures ∙ c.unsigned_abs.ensures.value ∙ ap nat_abs z in
+    let s = c.is_negative.ensures ∙ ap is_negative z ∙ negative_is c.args.n in
+    ap (λ (b : ℕ). record { bits = b }) (c.pattern.ensures ∙ rw (s, m) refl)
