@@ -12,7 +12,6 @@ use Rattle.registers.specs.Values.{Value}
 use Rattle.sheets.specs.Beside.{SameRounding, beside_quotient}
 use Rattle.sheets.specs.Operands.{units_of}
 use Rattle.sheets.specs.Quotients.{QuotientSheet}
-use Rattle.sheets.specs.Roots.{RootSheet}
 use Rattle.bench.specs.declared.answer.Special.{Special}
 use Rattle.bench.specs.Kinds.{Stands, is_negative, signs_differ, units}
 use Rattle.bench.specs.Worksheets.{ByTable, Closes}
@@ -41,9 +40,6 @@ quotient_value A B a b e f = ap (λ (x : ℕ). beside_quotient x B) e ∙ ap (be
 
 pub quotient_sheet : (seeds : ℕ → ℕ) (A B a b : ℕ) (lines : List Value) (closing : ℕ) → A ≡ a → B ≡ b → QuotientSheet seeds A B lines closing → QuotientSheet seeds a b lines closing
 quotient_sheet seeds A B a b lines closing e f sheet = subst (λ (x : ℕ). QuotientSheet seeds a x lines closing) f (subst (λ (x : ℕ). QuotientSheet seeds x B lines closing) e sheet)
-
-pub root_sheet : (seeds : ℕ → ℕ) (A a : ℕ) (lines : List Value) (closing : ℕ) → A ≡ a → RootSheet seeds A lines closing → RootSheet seeds a lines closing
-root_sheet seeds A a lines closing e sheet = subst (λ (x : ℕ). RootSheet seeds x lines closing) e sheet
 
 -- ---- the patterns that the operands come from
 

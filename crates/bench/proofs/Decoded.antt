@@ -49,12 +49,6 @@ module _ (p : Pattern) (h : unsigned p < 0x7F800000) where
   pub is_zero : (s : Bool) → finite s 0 ≡ meaning p.bits → unsigned p ≡ 0
   is_zero s e = sym (encode_decode (unsigned p)) ∙ ap encoded (sym (same_size _ _ _ _ (e ∙ finite_meaning_lem))) ∙ encoded_zero
 
-  pub not_nan : (q : Bool) → nan q ≡ meaning p.bits → ⊥
-  not_nan q e = let f : nan q ≡ finite (is_negative p) (units p) = e ∙ finite_meaning_lem in let z : ◌≡◌ {A = ℕ} 0 1 = cc in omega arith
-
-  pub not_infinite : (s : Bool) → infinite s ≡ meaning p.bits → ⊥
-  not_infinite s e = let f : infinite s ≡ finite (is_negative p) (units p) = e ∙ finite_meaning_lem in let z : ◌≡◌ {A = ℕ} 0 1 = cc in omega arith
-
 pub zero_units : (p : Pattern) → unsigned p ≡ 0 → units p ≡ 0
 zero_units p e = ap magnitude e ∙ magnitude_low 0 (omega arith)
 

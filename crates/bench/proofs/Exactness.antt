@@ -6,7 +6,6 @@ use Rattle.std.proofs.lemmas.Bool.{le-leb, lt-leb}
 use Rattle.registers.specs.declared.pattern.Datum.{Datum}
 use Rattle.registers.specs.declared.pattern.Pattern.{Pattern}
 use Rattle.registers.specs.declared.mode.Mode.{Mode}
-use Rattle.registers.specs.declared.mode.Rounded.{Rounded}
 use Rattle.registers.specs.Binary32.{Unsigned, magnitude, grid32, seek, rounding, from_low, concluded, is_tiny}
 use Rattle.registers.specs.Coding.{denoted, encoded, encoding, finite}
 use Rattle.registers.specs.Coding as coding
@@ -15,15 +14,12 @@ use Rattle.registers.proofs.Compared.{cmp_eq}
 use Rattle.registers.proofs.Encodings.{encoded_number, is_negative_with_sign, unsigned_of}
 use Rattle.registers.proofs.Grids.{magnitude_step, rising_mono, seek_finds}
 use Rattle.bench.specs.Kinds.{is_negative, units}
-use Rattle.bench.specs.Values.{beside_exact}
+use Rattle.bench.specs.Values.{beside_exact, exact_rounded}
 use Rattle.bench.proofs.Decoded.{is_number}
 
 -- a pattern that is given as it is
 abbrev plainly : ℕ → Unsigned
 plainly p = record { pattern = p; inexact = false; overflow = false; underflow = false }
-
-abbrev exact : Pattern → Rounded
-exact p = record { pattern = p; inexact = false; overflow = false; underflow = false }
 
 abbrev at : ℕ → Pattern
 at n = record { bits = n }
@@ -63,9 +59,9 @@ module _ (x : Datum) (s : Bool) (v : ℕ) (d : denoted x ≡ finite s v) (p : Pa
   bits_are : p.bits ≡ with_sign s (encoded v)
   bits_are = code ∙ ap encoding d
 
-  pub is_rounded : (mode : Mode) → exact p ≡ rounded mode s (beside_exact (v * 2 ^ 175))
+  pub is_rounded : (mode : Mode) → exact_rounded p ≡ rounded mode s (beside_exact (v * 2 ^ 175))
   is_rounded mode =
-      ap (λ (n : ℕ). exact (at n)) bits_are ∙ ap (under_sign s) (sym (itself mode s (encoded v) coded.1))
+      ap (λ (n : ℕ). exact_rounded (at n)) bits_are ∙ ap (under_sign s) (sym (itself mode s (encoded v) coded.1))
       ∙ ap (λ (n : ℕ). rounded mode s (beside_exact (n * 2 ^ 175))) coded.0
 
   pub parts_are : (units p ≡ v) × (is_negative p ≡ s)

@@ -29,9 +29,13 @@ is_down TowardZero = false
 abbrev pub zero_sign : Mode → Bool → Bool → Bool
 zero_sign mode s t = cond (beq s t) s (is_down mode)
 
+-- a pattern as a rounded value that is exact
+abbrev pub exact_rounded : Pattern → Rounded
+exact_rounded p = record { pattern = p; inexact = false; overflow = false; underflow = false }
+
 -- a zero as a rounded value
 abbrev pub zero_rounded : Bool → Rounded
-zero_rounded s = record { pattern = zero_of s; inexact = false; overflow = false; underflow = false }
+zero_rounded s = exact_rounded (zero_of s)
 
 -- the sign of p·q + r
 unfoldable pub fuse_sign : Mode → Pattern → Pattern → Pattern → Bool

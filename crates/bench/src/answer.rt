@@ -2,6 +2,7 @@
 
 ghost use Rattle.std.specs.Prelude.{◌≡◌};
 ghost use Rattle.bench.specs.Tables.{answered, nan as nan_of, rounded_answer, special_answer};
+ghost use Rattle.bench.specs.Values.{exact_rounded};
 
 use crate::flags::Flags;
 use registers::{Pattern, Rounded};
@@ -31,6 +32,18 @@ fn nan() -> Pattern
     ensures { result ≡ nan_of }
 {
     Pattern::from_bits(0x7FC0_0000)
+}
+
+/// A pattern as a rounded value that is exact.
+pub(crate) fn exact(pattern: Pattern) -> Rounded
+    ensures { result ≡ exact_rounded pattern }
+{
+    Rounded {
+        pattern,
+        inexact: false,
+        overflow: false,
+        underflow: false,
+    }
 }
 
 impl Answer {

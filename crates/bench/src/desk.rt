@@ -36,7 +36,7 @@ impl<S: Source> Desk<S> {
         ensures sheet { self.new.sheet ≡ self.old.sheet }
     {
         let answer = Answer::new(subnormal, value);
-        self.flags = self.flags.joined(answer.flags);
+        self.flags = self.flags | answer.flags;
         answer.pattern
     }
 

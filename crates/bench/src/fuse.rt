@@ -4,9 +4,9 @@ ghost use Rattle.std.specs.Prelude.{◌≡◌, ◌*◌, ◌^◌};
 ghost use Rattle.registers.specs.Modes.{rounded};
 ghost use Rattle.bench.specs.Tables.{fuse_table};
 ghost use Rattle.bench.specs.Unless.{unless};
-ghost use Rattle.bench.specs.Values.{beside_exact, fuse_sign, fuse_size, zero_rounded, zero_sign};
+ghost use Rattle.bench.specs.Values.{beside_exact, fuse_sign, fuse_size, zero_sign};
 
-use crate::answer::Special;
+use crate::answer::{Special, exact};
 use crate::kind::{is_negative, signs_differ, zero};
 use crate::operand::Operand;
 use crate::table::fuse_table;
@@ -26,18 +26,6 @@ fn zero_sign(mode: Mode, s: bool, t: bool) -> bool
     }
 }
 
-/// A zero, which is exact.
-fn exact_zero(negative: bool) -> Rounded
-    ensures { result ≡ zero_rounded negative }
-{
-    Rounded {
-        pattern: zero(negative),
-        inexact: false,
-        overflow: false,
-        underflow: false,
-    }
-}
-
 /// The exact sum of operands, rounded once.
 fn fuse_exact(mode: Mode, p: Operand, q: Operand, r: Operand) -> Rounded
     ensures { result ≡ rounded mode (fuse_sign mode p.pattern q.pattern r.pattern) (beside_exact (fuse_size p.pattern q.pattern r.pattern * 2 ^ 26)) }
@@ -47,7 +35,7 @@ fn fuse_exact(mode: Mode, p: Operand, q: Operand, r: Operand) -> Rounded
         Some(sum) => sum,
         None => {
             let product = signs_differ(p.pattern, q.pattern);
-            exact_zero(zero_sign(mode, is_negative(r.pattern), product))
+            exact(zero(zero_sign(mode, is_negative(r.pattern), product)))
         }
     }
 }

@@ -4,6 +4,9 @@ ghost use Rattle.std.specs.Prelude.{◌≡◌};
 ghost use Rattle.bench.specs.Refused.{number as number_of};
 ghost use Rattle.bench.specs.declared.refusal.Refusal.TheVariants.{Line};
 
+use std::error::Error;
+use std::fmt;
+
 /// Why a call is refused.
 #[derive(Clone, Copy, PartialEq, Eq, Debug)]
 pub enum Refusal {
@@ -17,16 +20,16 @@ pub enum Refusal {
     Line(sheets::Refusal),
 }
 
-impl Refusal {
+impl From<Refusal> for u32 {
+    ghost from_gives = { λ refusal n. n ≡ number_of refusal };
+
     /// The refusal's number.
-    pub fn number(self) -> u32
-        ensures { result ≡ number_of self }
-    {
-        match self {
+    fn from(refusal: Refusal) -> u32 {
+        match refusal {
             Refusal::HighMode => 1,
             Refusal::ZeroDivisor => 2,
             Refusal::Beyond => 3,
-            Refusal::Line(e) => e.number(),
+            Refusal::Line(line) => line.number(),
         }
     }
 }
@@ -39,3 +42,12 @@ impl From<sheets::Refusal> for Refusal {
         Refusal::Line(e)
     }
 }
+
+/// `R` and the refusal's number.
+impl fmt::Display for Refusal {
+    fn fmt<W: fmt::Write>(&self, f: &mut fmt::Formatter<W>) -> fmt::Result {
+        write!(f, "R{}", u32::from(*self))
+    }
+}
+
+impl Error for Refusal {}

@@ -11,11 +11,12 @@ ghost use Rattle.bench.specs.Tables.{given_out, remainder_table};
 ghost use Rattle.bench.specs.Unless.{unless};
 ghost use Rattle.bench.specs.Values.{beside_exact, remainder_sign, remainder_units};
 
-use crate::answer::Special;
+use crate::answer::{Special, exact};
 use crate::kind::is_negative;
 use crate::operand::Operand;
 use crate::table::remainder_table;
 use registers::{Datum, Finite, Mode, Pattern, Rounded};
+use std::cmp::Ordering;
 
 /// A magnitude of `significand · 2^exponent` units of `2^-149`, which may be zero.
 #[derive(Clone, Copy)]
@@ -83,11 +84,10 @@ impl Left {
     fn goes_up(self) -> bool
         ensures { result ≡ (if nat_eq (2 * self.rest) self.divisor then self.odd else nat_lt self.divisor (2 * self.rest)) }
     {
-        let twice = 2 * self.rest;
-        if twice == self.divisor {
-            self.odd
-        } else {
-            twice > self.divisor
+        match (2 * self.rest).cmp(&self.divisor) {
+            Ordering::Less => false,
+            Ordering::Equal => self.odd,
+            Ordering::Greater => true,
         }
     }
 
@@ -163,12 +163,7 @@ fn exactly(x: Datum) -> Rounded
     ensures rounds { (mode : Mode) (s : Bool) (v : ℕ) → denoted x ≡ finite s v → result ≡ rounded mode s (beside_exact (v * 2 ^ 175)) }
     ensures parts { (s : Bool) (v : ℕ) → denoted x ≡ finite s v → (units result.pattern ≡ v) × (is_negative result.pattern ≡ s) }
 {
-    Rounded {
-        pattern: x.encode(),
-        inexact: false,
-        overflow: false,
-        underflow: false,
-    }
+    exact(x.encode())
 }
 
 /// The remainder of `x` by `y`, which is the same in every mode, or what its table makes of special operands.

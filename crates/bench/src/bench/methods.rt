@@ -43,8 +43,7 @@ impl<S: Source> Bench<S> {
     pub fn mode(&self) -> Mode
         ensures { result ≡ standing_mode self.now }
     {
-        let ModeRecord { mode } = self.standing;
-        mode
+        self.standing.mode
     }
 
     /// The flags that are up.
@@ -81,7 +80,8 @@ impl<S: Source> Bench<S> {
         ensures answer { result ≡ set_answer (mode_of number) }
         ensures after { self.new ≡ with_mode (mode_of number) self.old }
     {
-        self.standing.mode = Mode::from_number(number).ok_or(Refusal::HighMode)?;
+        let mode = Mode::from_number(number).ok_or(Refusal::HighMode)?;
+        self.standing = ModeRecord { mode };
         Ok(())
     }
 

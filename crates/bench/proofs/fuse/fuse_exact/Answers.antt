@@ -1,7 +1,7 @@
 use Rattle.std.proofs.Common.{Bool, ap, ◌∙◌}
 use Rattle.registers.specs.Values.{value}
 use Rattle.bench.specs.Kinds.{is_negative}
-use Rattle.bench.specs.Values.{zero_rounded, zero_sign}
+use Rattle.bench.specs.Values.{exact_rounded, zero_rounded, zero_sign}
 use Rattle.bench.proofs.Fusing.{fuse_some, fuse_none}
 use Rattle.bench.proofs.fuse.fuse_exact.Goals as goal
 
@@ -19,7 +19,7 @@ returns-in-None c =
     let p = c.register.ensures in
     let q = c.register-2.ensures in
     let r = c.register-addend.ensures in
-    c.exact_zero.ensures
+    c.exact.ensures ∙ ap exact_rounded c.zero.ensures
     ∙ ap zero_rounded (c.zero_sign.ensures ∙ ap (λ (s : Bool). zero_sign c.args.mode s c.signs_differ-product.result) c.is_negative.ensures ∙ ap (zero_sign c.args.mode (is_negative c.args.r.pattern)) c.signs_differ-product.ensures)
     ∙ fuse_none c.args.p.pattern c.args.q.pattern c.args.r.pattern (value c.register.result) (value c.register-2.result) (value c.register-addend.result)
     (record { size = p.size; sign = p.sign }) (record { size = q.size; sign = q.sign }) (record { size = r.size; sign = r.sign })

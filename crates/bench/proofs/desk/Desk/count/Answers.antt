@@ -1,10 +1,10 @@
-use Rattle.std.proofs.Common.{ℕ, ℤ, nat_abs, Option, refl, ap, ◌∙◌, w32, to_z, of_z}
+use Rattle.std.proofs.Common.{ℕ, ℤ, nat_abs, Option, ap, ◌∙◌, w32, to_z, of_z}
 use Rattle.std.proofs.lemmas.Int.{to_z-of_z}
 use Rattle.std.proofs.lemmas.Result.{err_from_is_err_and}
 use Rattle.bench.specs.declared.refusal.Refusal.{Refusal}
 use Rattle.bench.specs.Counts.{count_answer, count_refusal, counted}
 use Rattle.bench.specs.Unless.{unless}
-use Rattle.bench.proofs.Counting.{lines_as, magnitude_is}
+use Rattle.bench.proofs.Counting.{magnitude_is}
 use Rattle.bench.proofs.Verdicts.{by_row, by_value, undecided}
 use Rattle.bench.proofs.desk.Desk.count.Goals as goal
 

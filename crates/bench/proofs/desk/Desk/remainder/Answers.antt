@@ -1,5 +1,4 @@
-use Rattle.std.proofs.Common.{◌≡◌, Bool, ap, refl, ◌∙◌}
-use Rattle.registers.specs.declared.mode.Mode.{Mode}
+use Rattle.std.proofs.Common.{ap, refl, ◌∙◌}
 use Rattle.bench.specs.declared.answer.Answer.{Answer}
 use Rattle.bench.specs.Calls.{remainder_answer}
 use Rattle.bench.proofs.Raising.{raises_as}

@@ -1,12 +1,10 @@
-use Rattle.std.proofs.Common.{◌≡◌, ℕ, ◌*◌, ◌/◌, ◌<◌, ◌^◌, Bool, false, Some, Option, refl, sym, ◌∙◌, subst}
+use Rattle.std.proofs.Common.{◌≡◌, ℕ, ◌*◌, ◌/◌, ◌<◌, ◌^◌, Bool, Some, Option, sym, ◌∙◌, subst}
 use Rattle.std.specs.Option.{MatchOption}
-use Rattle.registers.specs.declared.mode.Mode.TheVariants.{TowardZero}
 use Rattle.registers.specs.declared.pattern.Finite.{Finite}
 use Rattle.registers.specs.declared.pattern.Pattern.{Pattern}
 use Rattle.registers.specs.Coding.{finite, finite_meaning}
 use Rattle.sheets.specs.Operands.{units_of}
 use Rattle.bench.specs.Kinds.{units}
-use Rattle.bench.proofs.Closes.{closes, quotient_sheet}
 use Rattle.bench.proofs.Cutting.{closing_cut}
 use Rattle.bench.proofs.Decoded.{same_size}
 use Rattle.bench.proofs.desk.Desk.whole_quotient.Goals as goal
@@ -28,18 +26,9 @@ cut-requires g c =
     subst (λ (p : Pattern). units p < 2 ^ 24 * 2 ^ 149) (sym c.new.ensures)
     (closing_cut c.args.m.value c.args.n.value _ _ c.requires.0 c.args.m.few c.requires.1 c.args.n.few a b _ c.toward_zero.result c.toward_zero.ensures c.fill_quotient-closing.ensures.same_rounding).bounded
 
-pub returns : goal.returns
-returns g c =
+pub returns-clause-value : goal.returns-clause-value
+returns-clause-value g c =
     let a = size_is _ _ _ _ _ c.number.ensures c.unwrap-dividend.ensures in
     let b = size_is _ _ _ _ _ c.number-2.ensures c.unwrap-divisor.ensures in
     let p = closing_cut c.args.m.value c.args.n.value _ _ c.requires.0 c.args.m.few c.requires.1 c.args.n.few a b _ c.toward_zero.result c.toward_zero.ensures c.fill_quotient-closing.ensures.same_rounding in
-    let whole = subst (λ (q : Pattern). c.cut.result ≡ units q / 2 ^ 149) c.new.ensures c.cut.ensures in
-    record {
-      value = whole ∙ p.whole;
-      sheet = record {
-        pattern = c.toward_zero.result.pattern;
-        closes = closes TowardZero false false refl _ c.toward_zero.result c.toward_zero.ensures _ _ (quotient_sheet _ _ _ _ _ _ _ a b c.fill_quotient-closing.ensures.sheet);
-        whole = whole;
-      };
-      kept = record { flags = refl; origin = refl };
-    }
+    subst (λ (q : Pattern). c.cut.result ≡ units q / 2 ^ 149) c.new.ensures c.cut.ensures ∙ p.whole
