@@ -1,6 +1,6 @@
 //! Whole numbers as patterns.
 
-ghost use Rattle.std.specs.Prelude.{◌≡◌, ◌*◌, ◌^◌, ◌<◌, ◌≤◌, MatchOption, nat_lt, unsigned_abs};
+ghost use Rattle.std.specs.Prelude.{◌≡◌, ◌*◌, ◌^◌, ◌<◌, ◌≤◌, MatchOption, unsigned_abs};
 ghost use Rattle.registers.specs.Coding.{encoded, finite, finite_meaning};
 ghost use Rattle.registers.specs.Modes.{with_sign};
 ghost use Rattle.bench.specs.Counts.{greatest, with_sign_ℤ};
@@ -53,27 +53,13 @@ impl Magnitude {
     }
 }
 
-/// Whether a whole number is beyond ±16,777,215.
-pub(crate) fn is_beyond(n: i64) -> bool
-    ensures { result ≡ nat_lt greatest (unsigned_abs n) }
-{
-    n.unsigned_abs() > GREATEST as u64
-}
-
-/// The pattern of a whole number within ±16,777,215.
-pub(crate) fn whole(n: i64) -> Pattern
-    requires { unsigned_abs n ≤ greatest }
-    ensures { result ≡ whole_pattern n }
-{
-    Magnitude::new(n.unsigned_abs() as u32).pattern(n.is_negative())
-}
-
 /// The pattern of a whole number, or nothing beyond ±16,777,215.
 pub fn whole_pattern(n: i64) -> Option<Pattern>
     ensures { MatchOption result (greatest < unsigned_abs n) (λ p. (unsigned_abs n ≤ greatest) × (p ≡ whole_pattern n)) }
 {
-    if is_beyond(n) {
+    let magnitude = n.unsigned_abs();
+    if magnitude > GREATEST as u64 {
         return None;
     }
-    Some(whole(n))
+    Some(Magnitude::new(magnitude as u32).pattern(n.is_negative()))
 }

@@ -13,7 +13,7 @@ use crate::bench::{Bench, ModeRecord};
 use crate::desk::Desk;
 use crate::kind::zero;
 use crate::refusal::Refusal;
-use crate::whole::{is_beyond, whole};
+use crate::whole::whole_pattern;
 use registers::{Mode, Pattern};
 use sources::Source;
 
@@ -45,14 +45,6 @@ impl<'a> NearestGuard<'a> {
     }
 }
 
-/// Whether a difference is beyond ±16,777,215.
-#[tactic(auto, unfolding(crate::specs::Distances::too_far))]
-fn too_far(dx: i64, dy: i64) -> bool
-    ensures { result ≡ too_far dx dy }
-{
-    is_beyond(dx) | is_beyond(dy)
-}
-
 impl<S: Source> Desk<S> {
     /// The root of `x·x + (y·y + 0)` in a mode. It leaves the root's sheet.
     fn length(&mut self, mode: Mode, x: Pattern, y: Pattern) -> Pattern
@@ -63,16 +55,6 @@ impl<S: Source> Desk<S> {
         let square = self.fuse(mode, y, y, zero(false));
         let sum = self.fuse(mode, x, x, square);
         self.root(mode, sum)
-    }
-
-    /// The distance for differences in range, in nearest. It leaves the root's sheet.
-    fn distance(&mut self, mode: Mode, dx: i64, dy: i64) -> Pattern
-        requires { (mode ≡ NearestCase) × (too_far dx dy ≡ false) }
-        ensures answer { result ≡ (length_answer dx dy).pattern }
-        ensures after { RaisesThere (length_raised dx dy) self.old self.new }
-        ensures sheet { RootLeaves (S.Source.roots self.old.source) NearestCase (sum_answer dx dy).pattern (values self.new.sheet) result }
-    {
-        self.length(mode, whole(dx), whole(dy))
     }
 }
 
@@ -86,10 +68,9 @@ impl<S: Source> Bench<S> {
         ensures kept { KeptIfRefused result self.old self.new }
     {
         let guard = NearestGuard::new(&mut self.standing);
-        if too_far(dx, dy) {
-            return Err(Refusal::Beyond);
-        }
-        Ok(self.desk.distance(guard.lent.mode, dx, dy))
+        let x = whole_pattern(dx).ok_or(Refusal::Beyond)?;
+        let y = whole_pattern(dy).ok_or(Refusal::Beyond)?;
+        Ok(self.desk.length(guard.lent.mode, x, y))
     }
 
     /// The remainder of a distance by a pitch, in nearest; the mode that stood stands again. It leaves an empty sheet.
