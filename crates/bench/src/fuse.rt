@@ -10,8 +10,7 @@ use crate::answer::{Special, exact};
 use crate::kind::{is_negative, signs_differ, zero};
 use crate::operand::Operand;
 use crate::table::fuse_table;
-use registers::round::round_fused;
-use registers::{Choice, Mode, Pattern, Rounded};
+use registers::{Choice, FusedSum, Mode, Pattern, Rounded};
 
 /// The sign of a sum of zero whose terms have these signs.
 fn zero_sign(mode: Mode, s: bool, t: bool) -> bool
@@ -30,9 +29,14 @@ fn zero_sign(mode: Mode, s: bool, t: bool) -> bool
 fn fuse_exact(mode: Mode, p: Operand, q: Operand, r: Operand) -> Rounded
     ensures { result ≡ rounded mode (fuse_sign mode p.pattern q.pattern r.pattern) (beside_exact (fuse_size p.pattern q.pattern r.pattern * 2 ^ 26)) }
 {
-    let addend = r.register();
-    match round_fused(addend, Choice::Plus, p.register(), q.register(), mode) {
-        Some(sum) => sum,
+    let sum = FusedSum {
+        r: r.register(),
+        choice: Choice::Plus,
+        p: p.register(),
+        q: q.register(),
+    };
+    match sum.round(mode) {
+        Some(value) => value,
         None => {
             let product = signs_differ(p.pattern, q.pattern);
             exact(zero(zero_sign(mode, is_negative(r.pattern), product)))

@@ -4,10 +4,8 @@ ghost use Rattle.std.specs.Prelude.{◌≡◌};
 ghost use Rattle.bench.specs.Kinds.{is_infinite, is_nan, is_negative, is_signalling, is_subnormal, is_zero, signs_differ, unsigned as unsigned_of};
 ghost use Rattle.bench.specs.Tables.{infinity_of, zero_of};
 
+use registers::pattern::INFINITY;
 use registers::{Datum, Pattern};
-
-/// The pattern of an infinity, without its sign.
-const INFINITY: u32 = 0x7F80_0000;
 
 /// The pattern without its sign.
 pub(crate) fn unsigned(p: Pattern) -> u32

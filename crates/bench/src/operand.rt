@@ -48,7 +48,7 @@ impl Operand {
         ensures sign { 0 < units self.pattern → (value result).negative ≡ is_negative self.pattern }
     {
         match self.number() {
-            Some(x) => Register::Nonzero(Number::from_finite(x)),
+            Some(x) => Register::Nonzero(Number::from(x)),
             None => Register::Zero,
         }
     }

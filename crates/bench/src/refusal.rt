@@ -2,8 +2,9 @@
 
 ghost use Rattle.std.specs.Prelude.{◌≡◌};
 ghost use Rattle.bench.specs.Refused.{number as number_of};
-ghost use Rattle.bench.specs.declared.refusal.Refusal.TheVariants.{Line};
+ghost use Rattle.bench.specs.declared.refusal.Refusal.TheVariants.{HighMode, Line};
 
+use registers::UnknownMode;
 use std::error::Error;
 use std::fmt;
 
@@ -29,8 +30,17 @@ impl From<Refusal> for u32 {
             Refusal::HighMode => 1,
             Refusal::ZeroDivisor => 2,
             Refusal::Beyond => 3,
-            Refusal::Line(line) => line.number(),
+            Refusal::Line(line) => u32::from(line),
         }
+    }
+}
+
+impl From<UnknownMode> for Refusal {
+    ghost from_gives = { λ _ refusal. refusal ≡ HighMode };
+
+    /// A number of no mode, refused.
+    fn from(_: UnknownMode) -> Refusal {
+        Refusal::HighMode
     }
 }
 

@@ -80,7 +80,7 @@ impl<S: Source> Bench<S> {
         ensures answer { result ≡ set_answer (mode_of number) }
         ensures after { self.new ≡ with_mode (mode_of number) self.old }
     {
-        let mode = Mode::from_number(number).ok_or(Refusal::HighMode)?;
+        let mode = Mode::try_from(number)?;
         self.standing = ModeRecord { mode };
         Ok(())
     }
