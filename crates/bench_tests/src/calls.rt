@@ -1,27 +1,18 @@
 //! Results, refusals and flags.
 
-use bench::Bench;
+use bench::{Bench, Flags, Refusal};
 use registers::Pattern;
-use sources::Source;
-use sources::line::LineSource;
-use sources::table::TableSource;
+use sources::Delivered;
 use std::process::Abort;
 use std::test::Fail;
 
-// A quotient in a mode on a fresh bench.
-fn quotient<S: Source + Drop>(source: S, mode: u32, a: u32, b: u32) -> u32 {
+const SOURCES: [Delivered; 2] = [Delivered::Table, Delivered::Line];
+
+// A fresh bench in a mode.
+fn bench_in(source: Delivered, mode: u32) -> Bench<Delivered> {
     let mut bench = Bench::new(source);
     let _ = bench.set_mode(mode);
     bench
-        .divide(Pattern::from_bits(a), Pattern::from_bits(b))
-        .bits()
-}
-
-// A root in a mode on a fresh bench.
-fn root<S: Source + Drop>(source: S, mode: u32, a: u32) -> u32 {
-    let mut bench = Bench::new(source);
-    let _ = bench.set_mode(mode);
-    bench.root(Pattern::from_bits(a)).bits()
 }
 
 // A dividend, a divisor, and their quotient in the modes 0 to 3. The last would be 002F0830 to nearest if it were rounded twice.
@@ -58,66 +49,82 @@ const ROOTS: [(u32, [u32; 4]); 3] = [
     ),
 ];
 
-fn check_quotient(rt: &impl Abort, mode: u32, a: u32, b: u32, expected: u32) {
-    assert_eq!(rt; quotient(TableSource, mode, a, b), expected);
-    assert_eq!(rt; quotient(LineSource, mode, a, b), expected);
-}
-
-fn check_root(rt: &impl Abort, mode: u32, a: u32, expected: u32) {
-    assert_eq!(rt; root(TableSource, mode, a), expected);
-    assert_eq!(rt; root(LineSource, mode, a), expected);
+// A call in the modes 0 to 3, over both sources.
+fn check_modes<F: Fn(&mut Bench<Delivered>) -> Pattern>(
+    rt: &impl Abort,
+    call: F,
+    expected: [u32; 4],
+)
+    requires { F.IsAlwaysCallable call }
+{
+    for source in SOURCES {
+        for (mode, bits) in (0..4).zip(expected) {
+            assert_eq!(rt; call(&mut bench_in(source, mode)), Pattern::from_bits(bits));
+        }
+    }
 }
 
 #[test]
 fn quotients_in_four_modes(rt: HostRuntime) {
     for (a, b, expected) in QUOTIENTS {
-        check_quotient(&rt, 0, a, b, expected[0]);
-        check_quotient(&rt, 1, a, b, expected[1]);
-        check_quotient(&rt, 2, a, b, expected[2]);
-        check_quotient(&rt, 3, a, b, expected[3]);
+        let (a, b) = (Pattern::from_bits(a), Pattern::from_bits(b));
+        check_modes(&rt, |bench| bench.divide(a, b), expected);
     }
 }
 
 #[test]
 fn roots_in_four_modes(rt: HostRuntime) {
     for (a, expected) in ROOTS {
-        check_root(&rt, 0, a, expected[0]);
-        check_root(&rt, 1, a, expected[1]);
-        check_root(&rt, 2, a, expected[2]);
-        check_root(&rt, 3, a, expected[3]);
+        let a = Pattern::from_bits(a);
+        check_modes(&rt, |bench| bench.root(a), expected);
     }
 }
 
+// A dividend and a divisor, with the quotient and the remainder or the number of the refusal.
+const COUNTS: [(i32, i32, Result<(i32, i32), u32>); 8] = [
+    (-1000, 333, Ok((-3, -1))),
+    (1000, -333, Ok((-3, 1))),
+    (16_777_215, 1, Ok((16_777_215, 0))),
+    (16_777_216, 1, Err(3)),
+    (1, -16_777_216, Err(3)),
+    (i32::MIN, 0, Err(3)),
+    (0, 0, Err(2)),
+    (0, 7, Ok((0, 0))),
+];
+
 // A quotient and a remainder, or the number of a refusal.
 fn count(a: i32, b: i32) -> Result<(i32, i32), u32> {
-    let mut bench = Bench::new(TableSource);
-    match bench.count(a, b) {
-        Ok(c) => Ok((c.quotient, c.remainder)),
-        Err(e) => Err(e.number()),
-    }
+    let c = bench_in(Delivered::Table, 0).count(a, b)?;
+    Ok((c.quotient, c.remainder))
 }
 
 #[test]
 fn counts_and_their_refusals(rt: HostRuntime) {
-    assert_eq!(rt; count(-1000, 333), Ok((-3, -1)));
-    assert_eq!(rt; count(1000, -333), Ok((-3, 1)));
-    assert_eq!(rt; count(16_777_215, 1), Ok((16_777_215, 0)));
-    assert_eq!(rt; count(16_777_216, 1), Err(3));
-    assert_eq!(rt; count(1, -16_777_216), Err(3));
-    assert_eq!(rt; count(i32::MIN, 0), Err(3));
-    assert_eq!(rt; count(0, 0), Err(2));
-    assert_eq!(rt; count(0, 7), Ok((0, 0)));
+    for (a, b, expected) in COUNTS {
+        assert_eq!(rt; count(a, b), expected);
+    }
 }
 
 #[test]
-fn modes_above_three_are_refused(rt: HostRuntime) -> Result<(), Fail> {
-    let mut bench = Bench::new(LineSource);
+fn modes_above_three_are_refused(rt: HostRuntime) {
+    let mut bench = Bench::new(Delivered::Line);
     for n in [4, 5, u32::MAX] {
-        match bench.set_mode(n) {
-            Ok(()) => return Err(Fail::new("not refused")),
-            Err(e) => assert_eq!(rt; e.number(), 1),
-        }
+        assert_eq!(rt; bench.set_mode(n), Err(Refusal::HighMode));
     }
-    assert_eq!(rt; bench.mode().number(), 0);
+    assert_eq!(rt; u32::from(Refusal::HighMode), 1);
+    assert_eq!(rt; u32::from(bench.mode()), 0);
+}
+
+#[test]
+fn flags_and_refusals_in_words(rt: HostRuntime) -> Result<(), Fail> {
+    let heap = rt.alloc();
+    let mut bench = bench_in(Delivered::Table, 0);
+    let one = Pattern::from_bits(0x3F80_0000);
+    let least = Pattern::from_bits(1);
+    let _ = bench.divide(one, Pattern::from_bits(0));
+    let _ = bench.divide(least, Pattern::from_bits(0x4040_0000));
+    assert_eq!(rt; format!(in heap; "{}", bench.flags())?.as_str(), "-Z-UXD");
+    assert_eq!(rt; format!(in heap; "{}", Flags::default())?.as_str(), "------");
+    assert_eq!(rt; format!(in heap; "{} {}", Refusal::Beyond, Refusal::ZeroDivisor)?.as_str(), "R3 R2");
     Ok(())
 }

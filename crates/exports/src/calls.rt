@@ -2,9 +2,16 @@
 
 use bench::{Bench, Counted, Flags, Refusal};
 use registers::Pattern;
-use sources::Source;
-use sources::line::LineSource;
-use sources::table::TableSource;
+use sources::Delivered;
+
+/// A fresh bench over the source of a number.
+fn fresh(source: u32) -> Bench<Delivered> {
+    Bench::new(if source == 0 {
+        Delivered::Table
+    } else {
+        Delivered::Line
+    })
+}
 
 /// A pattern in the low 32 bits, and above it invalid, zero-divide, overflow, underflow, inexact and denormal.
 fn packed(z: Pattern, flags: Flags) -> u64 {
@@ -25,88 +32,51 @@ fn packed_count(z: Result<Counted, Refusal>) -> u64 {
             let remainder = c.remainder as i64 & 0x7FFF_FFFF;
             quotient as u64 | (remainder as u64) << 32
         }
-        Err(e) => 1 << 63 | e.number() as u64,
+        Err(e) => 1 << 63 | u32::from(e) as u64,
     }
 }
 
-fn fuse<S: Source + Drop>(source: S, mode: u32, p: u32, q: u32, r: u32) -> u64 {
-    let mut bench = Bench::new(source);
+/// A call on a fresh bench in a mode: the pattern that it gives, and the flags that are up after it.
+fn called<F: FnOnce(&mut Bench<Delivered>) -> Pattern>(source: u32, mode: u32, call: F) -> u64
+    requires { F.IsAlwaysCallable call }
+{
+    let mut bench = fresh(source);
     let _ = bench.set_mode(mode);
-    let z = bench.fuse(
-        Pattern::from_bits(p),
-        Pattern::from_bits(q),
-        Pattern::from_bits(r),
-    );
+    let z = call(&mut bench);
     packed(z, bench.flags())
-}
-
-fn divide<S: Source + Drop>(source: S, mode: u32, a: u32, b: u32) -> u64 {
-    let mut bench = Bench::new(source);
-    let _ = bench.set_mode(mode);
-    let z = bench.divide(Pattern::from_bits(a), Pattern::from_bits(b));
-    packed(z, bench.flags())
-}
-
-fn root<S: Source + Drop>(source: S, mode: u32, a: u32) -> u64 {
-    let mut bench = Bench::new(source);
-    let _ = bench.set_mode(mode);
-    let z = bench.root(Pattern::from_bits(a));
-    packed(z, bench.flags())
-}
-
-fn remainder<S: Source + Drop>(source: S, mode: u32, x: u32, y: u32) -> u64 {
-    let mut bench = Bench::new(source);
-    let _ = bench.set_mode(mode);
-    let z = bench.remainder(Pattern::from_bits(x), Pattern::from_bits(y));
-    packed(z, bench.flags())
-}
-
-fn count<S: Source + Drop>(source: S, a: i32, b: i32) -> u64 {
-    let mut bench = Bench::new(source);
-    packed_count(bench.count(a, b))
 }
 
 #[unsafe(no_mangle)]
 pub extern "C" fn bench_fuse(source: u32, mode: u32, p: u32, q: u32, r: u32) -> u64 {
-    if source == 0 {
-        fuse(TableSource, mode, p, q, r)
-    } else {
-        fuse(LineSource, mode, p, q, r)
-    }
+    called(source, mode, |bench| {
+        bench.fuse(
+            Pattern::from_bits(p),
+            Pattern::from_bits(q),
+            Pattern::from_bits(r),
+        )
+    })
 }
 
 #[unsafe(no_mangle)]
 pub extern "C" fn bench_divide(source: u32, mode: u32, a: u32, b: u32) -> u64 {
-    if source == 0 {
-        divide(TableSource, mode, a, b)
-    } else {
-        divide(LineSource, mode, a, b)
-    }
+    called(source, mode, |bench| {
+        bench.divide(Pattern::from_bits(a), Pattern::from_bits(b))
+    })
 }
 
 #[unsafe(no_mangle)]
 pub extern "C" fn bench_root(source: u32, mode: u32, a: u32) -> u64 {
-    if source == 0 {
-        root(TableSource, mode, a)
-    } else {
-        root(LineSource, mode, a)
-    }
+    called(source, mode, |bench| bench.root(Pattern::from_bits(a)))
 }
 
 #[unsafe(no_mangle)]
 pub extern "C" fn bench_remainder(source: u32, mode: u32, x: u32, y: u32) -> u64 {
-    if source == 0 {
-        remainder(TableSource, mode, x, y)
-    } else {
-        remainder(LineSource, mode, x, y)
-    }
+    called(source, mode, |bench| {
+        bench.remainder(Pattern::from_bits(x), Pattern::from_bits(y))
+    })
 }
 
 #[unsafe(no_mangle)]
 pub extern "C" fn bench_count(source: u32, a: i32, b: i32) -> u64 {
-    if source == 0 {
-        count(TableSource, a, b)
-    } else {
-        count(LineSource, a, b)
-    }
+    packed_count(fresh(source).count(a, b))
 }

@@ -4,9 +4,7 @@
 
 mod calls;
 
-use registers::round::round_fused;
-use registers::step::fused_step;
-use registers::{Choice, Datum, Mode, Number, Pattern, Refusal, Register};
+use registers::{Choice, Datum, FusedSum, Mode, Number, Pattern, Refusal, Register, Rounded};
 
 /// In an answer: the value is zero.
 const ZERO: u64 = 1 << 62;
@@ -17,7 +15,7 @@ const UNFIT: u64 = 1 << 63;
 /// The register number of a finite pattern.
 fn register(bits: u32) -> Option<Register> {
     match Pattern::from_bits(bits).decode() {
-        Datum::Finite(x) => Some(Register::Nonzero(Number::from_finite(x))),
+        Datum::Finite(x) => Some(Register::Nonzero(Number::from(x))),
         Datum::Zero { negative: _ } => Some(Register::Zero),
         _ => None,
     }
@@ -31,22 +29,30 @@ fn choice(minus: u32) -> Choice {
     }
 }
 
-/// `r + p·q`, or `r - p·q` where `minus` is not 0, of finite patterns, rounded in a mode: the pattern in the low 32 bits, then inexact, overflow, underflow.
-#[unsafe(no_mangle)]
-pub extern "C" fn registers_round(r: u32, minus: u32, p: u32, q: u32, mode: u32) -> u64 {
-    let (Some(r), Some(p), Some(q)) = (register(r), register(p), register(q)) else {
-        return UNFIT;
-    };
-    let Some(mode) = Mode::from_number(mode) else {
-        return UNFIT;
-    };
-    let Some(z) = round_fused(r, choice(minus), p, q, mode) else {
-        return ZERO;
-    };
+/// A rounded value: the pattern in the low 32 bits, then inexact, overflow, underflow.
+fn packed_rounded(z: Rounded) -> u64 {
     z.pattern.bits() as u64
         | (z.inexact as u64) << 32
         | (z.overflow as u64) << 33
         | (z.underflow as u64) << 34
+}
+
+/// The rounded sum of patterns, or nothing where one is not finite or no mode has the number.
+fn rounded(r: u32, minus: u32, p: u32, q: u32, mode: u32) -> Option<u64> {
+    let sum = FusedSum {
+        r: register(r)?,
+        choice: choice(minus),
+        p: register(p)?,
+        q: register(q)?,
+    };
+    let mode = Mode::try_from(mode).ok()?;
+    Some(sum.round(mode).map_or(ZERO, packed_rounded))
+}
+
+/// `r + p·q`, or `r - p·q` where `minus` is not 0, of finite patterns, rounded in a mode: the pattern in the low 32 bits, then inexact, overflow, underflow.
+#[unsafe(no_mangle)]
+pub extern "C" fn registers_round(r: u32, minus: u32, p: u32, q: u32, mode: u32) -> u64 {
+    rounded(r, minus, p, q, mode).unwrap_or(UNFIT)
 }
 
 /// A register number by its parts: a significand of 0 is zero.
@@ -54,10 +60,7 @@ fn number(negative: u32, exponent: i32, significand: u32) -> Option<Register> {
     if significand == 0 {
         return Some(Register::Zero);
     }
-    match Number::new(negative != 0, exponent, significand) {
-        Some(x) => Some(Register::Nonzero(x)),
-        None => None,
-    }
+    Number::new(negative != 0, exponent, significand).map(Register::Nonzero)
 }
 
 /// A register number: the significand in the low 32 bits, the exponent and 2^20 above it, the sign.
@@ -75,8 +78,25 @@ fn packed_number(x: Register) -> u64 {
 fn packed(z: Result<Register, Refusal>) -> u64 {
     match z {
         Ok(x) => packed_number(x),
-        Err(e) => (e.number() as u64) << 56,
+        Err(e) => (u32::from(e) as u64) << 56,
     }
+}
+
+/// The packed step, or nothing where the parts of a number are out of range.
+fn stepped(
+    r: Option<Register>,
+    minus: u32,
+    p: Option<Register>,
+    q: Option<Register>,
+    width: u32,
+) -> Option<u64> {
+    let sum = FusedSum {
+        r: r?,
+        choice: choice(minus),
+        p: p?,
+        q: q?,
+    };
+    Some(packed(sum.step(width)))
 }
 
 /// The fused step on register numbers by their parts.
@@ -94,14 +114,8 @@ pub extern "C" fn registers_step(
     q_significand: u32,
     width: u32,
 ) -> u64 {
-    let Some(r) = number(r_negative, r_exponent, r_significand) else {
-        return UNFIT;
-    };
-    let Some(p) = number(p_negative, p_exponent, p_significand) else {
-        return UNFIT;
-    };
-    let Some(q) = number(q_negative, q_exponent, q_significand) else {
-        return UNFIT;
-    };
-    packed(fused_step(r, choice(minus), p, q, width))
+    let r = number(r_negative, r_exponent, r_significand);
+    let p = number(p_negative, p_exponent, p_significand);
+    let q = number(q_negative, q_exponent, q_significand);
+    stepped(r, minus, p, q, width).unwrap_or(UNFIT)
 }
