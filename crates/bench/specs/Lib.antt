@@ -8,6 +8,7 @@ pub mod Told
 pub mod Calls
 pub mod Worked
 pub mod Refused
+pub mod Shown
 pub mod Counts
 pub mod Worksheets
 pub mod Desks

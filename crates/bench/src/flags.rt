@@ -1,10 +1,10 @@
 //! The six flags.
 
-ghost use Rattle.std.specs.Prelude.{◌≡◌};
+ghost use Rattle.std.specs.Prelude.{◌≡◌, Some};
 ghost use Rattle.bench.specs.Raised.{joined_flags};
+ghost use Rattle.bench.specs.Shown.{letter, letters};
 
 use std::fmt;
-use std::fmt::Write;
 use std::ops::BitOr;
 
 /// The flags that are up.
@@ -36,20 +36,24 @@ impl BitOr for Flags {
     }
 }
 
+/// A flag's letter, or a dash where the flag is down.
+fn letter(up: bool, name: &'static str) -> &'static str
+    ensures { result.now ≡ letter up name.now }
+{
+    if up { name } else { "-" }
+}
+
 /// The six letters, each a dash where its flag is down.
 impl fmt::Display for Flags {
+    ghost output = { λ flags. Some (letters flags) };
+
     fn fmt<W: fmt::Write>(&self, f: &mut fmt::Formatter<W>) -> fmt::Result {
-        let letters = [
-            (self.invalid, 'I'),
-            (self.zero_divide, 'Z'),
-            (self.overflow, 'O'),
-            (self.underflow, 'U'),
-            (self.inexact, 'X'),
-            (self.denormal, 'D'),
-        ];
-        for (up, letter) in letters {
-            f.write_char(if up { letter } else { '-' })?;
-        }
-        Ok(())
+        let i = letter(self.invalid, "I");
+        let z = letter(self.zero_divide, "Z");
+        let o = letter(self.overflow, "O");
+        let u = letter(self.underflow, "U");
+        let x = letter(self.inexact, "X");
+        let d = letter(self.denormal, "D");
+        write!(f, "{i}{z}{o}{u}{x}{d}")
     }
 }

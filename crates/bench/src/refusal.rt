@@ -1,7 +1,8 @@
 //! Why a call is refused.
 
-ghost use Rattle.std.specs.Prelude.{◌≡◌};
+ghost use Rattle.std.specs.Prelude.{◌≡◌, Some};
 ghost use Rattle.bench.specs.Refused.{number as number_of};
+ghost use Rattle.bench.specs.Shown.{numbered};
 ghost use Rattle.bench.specs.declared.refusal.Refusal.TheVariants.{HighMode, Line};
 
 use registers::UnknownMode;
@@ -55,6 +56,8 @@ impl From<sheets::Refusal> for Refusal {
 
 /// `R` and the refusal's number.
 impl fmt::Display for Refusal {
+    ghost output = { λ refusal. Some (numbered refusal) };
+
     fn fmt<W: fmt::Write>(&self, f: &mut fmt::Formatter<W>) -> fmt::Result {
         write!(f, "R{}", u32::from(*self))
     }
