@@ -124,7 +124,13 @@ fn flags_and_refusals_in_words(rt: HostRuntime) -> Result<(), Fail> {
     let _ = bench.divide(one, Pattern::from_bits(0));
     let _ = bench.divide(least, Pattern::from_bits(0x4040_0000));
     assert_eq!(rt; format!(in heap; "{}", bench.flags())?.as_str(), "-Z-UXD");
-    assert_eq!(rt; format!(in heap; "{}", Flags::default())?.as_str(), "------");
-    assert_eq!(rt; format!(in heap; "{} {}", Refusal::Beyond, Refusal::ZeroDivisor)?.as_str(), "R3 R2");
+    assert_eq!(rt;
+        format!(in heap; "{}", Flags::default())?.as_str(),
+        "------"
+    );
+    assert_eq!(rt;
+        format!(in heap; "{} {}", Refusal::Beyond, Refusal::ZeroDivisor)?.as_str(),
+        "R3 R2"
+    );
     Ok(())
 }
