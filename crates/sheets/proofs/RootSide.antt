@@ -1,4 +1,5 @@
 -- The closing value of a root lies to every number of at most 25 bits as the root of a does: by its places, from the first one of its binade up.
+-- The outline is that of QuotientSide, and no lemma stands for both: there a side is of B·G, linear in G, here of G·G, from other places and with other bounds.
 use Rattle.std.proofs.Common.{◌≡◌, ℕ, zero, ◌+◌, ◌*◌, ◌^◌, ◌<◌, ◌≤◌, sym, refl, ap, ◌∙◌, subst, inl, inr, mul-le-mul_right, mul-le-mul, mul-lt-mul_of_pos_right, mul-pos, le_of_mul-le-mul_right, arith, pow_pos}
 use native.Mathlib.Nat.{le_dest, eq_of_mul-eq-mul_right}
 use Rattle.registers.proofs.Near.{Near}

@@ -1,4 +1,5 @@
 -- From what the code has at each call to the operand, the seed and the lines of a root.
+-- The outline is that of QuotientWorked, and no lemma stands for both: each step has an equation of its own.
 use Rattle.std.proofs.Common.{◌≡◌, ℕ, zero, ◌+◌, ◌*◌, ◌/◌, ◌^◌, ◌<◌, ◌≤◌, true, false, [], ◌∷◌, is_ok, Ok, refl, ap, ◌∙◌, arith, pow_pos}
 use Rattle.registers.specs.declared.register.Choice.TheVariants.{Plus, Minus}
 use Rattle.registers.specs.declared.register.Number.{Number}

@@ -9,6 +9,7 @@ use crate::closing::Closing;
 use crate::sheet::Sheet;
 
 /// The lines of a sheet, and the closing value over them.
+// Two types that list their lines by name, and no array with a const parameter: the steps, the closing values and the sheets' relations speak of lines by name, and an index in place of each would be no plainer.
 pub(crate) trait Worked {
     ghost listed: { Self → List Value };
 
