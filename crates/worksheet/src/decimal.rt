@@ -3,7 +3,15 @@
 ghost use Rattle.std.specs.Prelude.{◌+◌, ◌*◌, ◌^◌, ◌<◌, ◌≤◌};
 
 use registers::{Number, Register};
-use std::alloc::{AllocError, Global};
+use std::fmt;
+
+/// A register number with nine decimals.
+#[derive(Clone, Copy)]
+pub struct Decimal(pub Register);
+
+/// A register number with nine decimals, by a power of two where it is far from 1.
+#[derive(Clone, Copy)]
+pub struct Scaled(pub Register);
 
 /// `product / 2^shift` rounded to a nearest whole number.
 fn nearest_quotient(product: u128, shift: u32) -> u128
@@ -17,48 +25,53 @@ fn nearest_quotient(product: u128, shift: u32) -> u128
 
 /// How many units of `10^-9` a number's magnitude has, or nothing where it is `2^30` or more.
 fn billionths(x: Number) -> Option<u128> {
-    let exponent = x.exponent();
-    if exponent > 29 {
-        return None;
-    }
-    if exponent < -71 {
-        return Some(0);
-    }
-    let product = x.significand() as u128 * 1_000_000_000;
-    Some(nearest_quotient(product, (29 - exponent) as u32))
-}
-
-/// A register number with nine decimals.
-pub fn decimal(heap: Global, x: Register) -> Result<String, AllocError> {
-    let Register::Nonzero(number) = x else {
-        return format!(in heap; "0.000000000");
-    };
-    let Some(units) = billionths(number) else {
-        return format!(in heap; "2^30 or more");
-    };
-    let whole = units / 1_000_000_000;
-    let part = units % 1_000_000_000;
-    if number.is_negative() && units > 0 {
-        format!(in heap; "-{whole}.{part:09}")
-    } else {
-        format!(in heap; "{whole}.{part:09}")
-    }
-}
-
-/// A register number with nine decimals, by a power of two where it is far from 1.
-pub fn scaled(heap: Global, x: Register) -> Result<String, AllocError> {
-    let Register::Nonzero(number) = x else {
-        return decimal(heap, x);
-    };
-    let exponent = number.exponent();
-    if exponent > -10 && exponent < 24 {
-        return decimal(heap, x);
-    }
-    match Number::new(number.is_negative(), 0, number.significand()) {
-        Some(one) => {
-            let digits = decimal(heap, Register::Nonzero(one))?;
-            format!(in heap; "{digits} * 2^{exponent}")
+    match x.exponent() {
+        30.. => None,
+        ..-71 => Some(0),
+        exponent => {
+            let product = u128::from(x.significand()) * 1_000_000_000;
+            Some(nearest_quotient(product, (29 - exponent) as u32))
         }
-        None => decimal(heap, x),
+    }
+}
+
+impl fmt::Display for Decimal {
+    fn fmt<W: fmt::Write>(&self, f: &mut fmt::Formatter<W>) -> fmt::Result {
+        let Register::Nonzero(number) = self.0 else {
+            return write!(f, "0.000000000");
+        };
+        let Some(units) = billionths(number) else {
+            return write!(f, "2^30 or more");
+        };
+        let sign = if number.is_negative() && units > 0 {
+            "-"
+        } else {
+            ""
+        };
+        let whole = units / 1_000_000_000;
+        let part = units % 1_000_000_000;
+        write!(f, "{sign}{whole}.{part:09}")
+    }
+}
+
+/// The number from 1 up to 2 and the power of two that make a number which is far from 1.
+fn far(x: Register) -> Option<(Number, i32)> {
+    match x {
+        Register::Nonzero(number) if !(-9..24).contains(&number.exponent()) => {
+            let one = Number::new(number.is_negative(), 0, number.significand())?;
+            Some((one, number.exponent()))
+        }
+        _ => None,
+    }
+}
+
+impl fmt::Display for Scaled {
+    fn fmt<W: fmt::Write>(&self, f: &mut fmt::Formatter<W>) -> fmt::Result {
+        match far(self.0) {
+            Some((one, exponent)) => {
+                write!(f, "{} * 2^{exponent}", Decimal(Register::Nonzero(one)))
+            }
+            None => write!(f, "{}", Decimal(self.0)),
+        }
     }
 }

@@ -3,28 +3,19 @@
 #![tactic(auto)]
 
 mod decimal;
+mod page;
 mod refine;
 mod request;
-mod show;
+mod row;
 mod trouble;
 
 use anyhow::anyhow;
 use request::answer;
 use std::env;
 use std::io::Write;
-use trouble::Trouble;
-
-/// The words after the program's name.
-fn words(rt: &HostRuntime) -> anyhow::Result<Vec<String>> {
-    let mut all = Vec::new(rt.alloc());
-    for word in env::args(rt)?.skip(1) {
-        all.push(word)?;
-    }
-    Ok(all)
-}
 
 fn run(rt: &HostRuntime) -> anyhow::Result<()> {
-    let words = words(rt)?;
+    let words: Vec<String> = env::args(rt)?.skip(1).collect(rt.alloc())?;
     match answer(rt.alloc(), &words) {
         Ok(text) => {
             rt.stdout().write_all(text.as_bytes())?;

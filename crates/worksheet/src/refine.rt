@@ -5,8 +5,7 @@ ghost use Rattle.registers.specs.Fused.{answered, fused};
 ghost use Rattle.registers.specs.Values.{Built, value};
 ghost use Rattle.worksheet.specs.Refined.{Refined, Round};
 
-use registers::step::fused_step;
-use registers::{Choice, Number, Refusal, Register};
+use registers::{Choice, FusedSum, Number, Refusal, Register};
 
 /// The lines of a refinement: three reciprocals, and after each what is left of 1.
 #[derive(Clone, Copy)]
@@ -27,16 +26,18 @@ pub struct Constants {
     pub slope: Number,
 }
 
-/// The constants, all of which are in range.
-pub fn line_constants() -> Constants
-    ensures one { Built false (pos 0) (2 ^ 29) result.one }
-    ensures line { Built false (pos 0) (361 * 2 ^ 21) result.line }
-    ensures slope { Built false (neg_ℤ (pos 2)) (120 * 2 ^ 23) result.slope }
-{
-    Constants {
-        one: Number::new(false, 0, 0x2000_0000).unwrap(),
-        line: Number::new(false, 0, 361 << 21).unwrap(),
-        slope: Number::new(false, -2, 120 << 23).unwrap(),
+impl Constants {
+    /// The constants, all of which are in range.
+    pub fn new() -> Constants
+        ensures one { Built false (pos 0) (2 ^ 29) result.one }
+        ensures line { Built false (pos 0) (361 * 2 ^ 21) result.line }
+        ensures slope { Built false (neg_ℤ (pos 2)) (120 * 2 ^ 23) result.slope }
+    {
+        Constants {
+            one: Number::new(false, 0, 0x2000_0000).unwrap(),
+            line: Number::new(false, 0, 361 << 21).unwrap(),
+            slope: Number::new(false, -2, 120 << 23).unwrap(),
+        }
     }
 }
 
@@ -44,7 +45,7 @@ pub fn line_constants() -> Constants
 fn step(r: Register, choice: Choice, p: Register, q: Register) -> Result<Register, Refusal>
     ensures { answered result ≡ fused 30 choice (value r) (value p) (value q) }
 {
-    fused_step(r, choice, p, q, 30)
+    FusedSum { r, choice, p, q }.step(30)
 }
 
 /// What is left of 1 by `b·y`, and the next reciprocal.
@@ -61,12 +62,9 @@ pub fn refine(c: Constants, b: Register) -> Result<Lines, Refusal>
     ensures { IfOk result (λ lines. Refined c (value b) lines) }
 {
     let one = Register::Nonzero(c.one);
-    let start = step(
-        Register::Nonzero(c.line),
-        Choice::Minus,
-        Register::Nonzero(c.slope),
-        b,
-    )?;
+    let line = Register::Nonzero(c.line);
+    let slope = Register::Nonzero(c.slope);
+    let start = step(line, Choice::Minus, slope, b)?;
     let (rest_0, once) = round(one, b, start)?;
     let (rest_1, twice) = round(one, b, once)?;
     let rest_2 = step(one, Choice::Minus, b, twice)?;

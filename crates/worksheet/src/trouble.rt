@@ -1,47 +1,33 @@
 //! Why there is no worksheet.
 
+use registers::Refusal;
+use sources::UnknownSource;
 use std::alloc::AllocError;
-use std::fmt;
+use thiserror::Error;
 
 /// Why there is no worksheet.
-#[derive(Clone, Copy)]
+#[derive(Clone, Copy, PartialEq, Eq, Debug, Error)]
 pub enum Trouble {
+    #[error("expected: PATTERN, table|line quotient PATTERN PATTERN, or table|line root PATTERN")]
     Words,
+    #[error("a pattern is eight hexadecimal digits")]
     NotAPattern,
-    Source,
+    #[error("a source is table or line")]
+    Source(#[from] UnknownSource),
+    #[error("a sheet is quotient or root")]
     Sheet,
+    #[error("a NaN has no sheet")]
     Nan,
+    #[error("an infinity has no sheet")]
     Infinite,
+    #[error("a zero has no sheet")]
     Zero,
+    #[error("a number below zero has no root and no refinement")]
     Negative,
+    #[error("the reciprocal is out of range")]
     Range,
-    Refused,
-    Memory,
-}
-
-impl fmt::Display for Trouble {
-    fn fmt<W: fmt::Write>(&self, f: &mut fmt::Formatter<W>) -> fmt::Result {
-        match self {
-            Trouble::Words => write!(
-                f,
-                "expected: PATTERN, table|line quotient PATTERN PATTERN, or table|line root PATTERN"
-            ),
-            Trouble::NotAPattern => write!(f, "a pattern is eight hexadecimal digits"),
-            Trouble::Source => write!(f, "a source is table or line"),
-            Trouble::Sheet => write!(f, "a sheet is quotient or root"),
-            Trouble::Nan => write!(f, "a NaN has no sheet"),
-            Trouble::Infinite => write!(f, "an infinity has no sheet"),
-            Trouble::Zero => write!(f, "a zero has no sheet"),
-            Trouble::Negative => write!(f, "a number below zero has no root and no refinement"),
-            Trouble::Range => write!(f, "the reciprocal is out of range"),
-            Trouble::Refused => write!(f, "a step was refused"),
-            Trouble::Memory => write!(f, "out of memory"),
-        }
-    }
-}
-
-impl From<AllocError> for Trouble {
-    fn from(_: AllocError) -> Trouble {
-        Trouble::Memory
-    }
+    #[error("a step was refused")]
+    Refused(#[from] Refusal),
+    #[error("out of memory")]
+    Memory(#[from(alloc)] AllocError),
 }
