@@ -1,13 +1,10 @@
 -- Flags that are raised one after the other are raised together.
-use Rattle.std.proofs.Common.{◌≡◌, Bool, true, false, ◌||◌, refl, ap, ◌∙◌}
+use Rattle.std.proofs.Common.{◌≡◌, refl, ap, ◌∙◌}
+use Rattle.std.proofs.Math.Bool.{or_assoc, or-false}
 use Rattle.bench.specs.declared.desk.Desk.{Desk}
 use Rattle.bench.specs.declared.flags.Flags.{Flags}
 use Rattle.bench.specs.Desks.{RaisesThere}
 use Rattle.bench.specs.Raised.{joined_flags, no_flags}
-
-or_assoc : (a b c : Bool) → ((a || b) || c) ≡ (a || (b || c))
-or_assoc true b c = refl
-or_assoc false b c = refl
 
 pub joined_assoc : (f g h : Flags) → joined_flags (joined_flags f g) h ≡ joined_flags f (joined_flags g h)
 joined_assoc f g h = rw (
@@ -32,10 +29,6 @@ raises_as f g old middle after e ef es r = record {
   origin = r.origin ∙ es;
 }
 
-or_false : (a : Bool) → (a || false) ≡ a
-or_false true = refl
-or_false false = refl
-
 -- no flag raises nothing
 pub joined_none : (f : Flags) → joined_flags f no_flags ≡ f
-joined_none f = rw (or_false f.invalid, or_false f.zero_divide, or_false f.overflow, or_false f.underflow, or_false f.inexact, or_false f.denormal) refl
+joined_none f = rw (or-false f.invalid, or-false f.zero_divide, or-false f.overflow, or-false f.underflow, or-false f.inexact, or-false f.denormal) refl

@@ -1,4 +1,4 @@
-use Rattle.std.proofs.Common.{◌≡◌, ℕ, ◌<◌, ◌≤◌, Bool, true, false, cond, ◌||◌, nat_lt, nat_abs, Some, None, Ok, Err, Option, ok_or, refl, sym, ap, ◌∙◌, subst, arith, w64}
+use Rattle.std.proofs.Common.{◌≡◌, ℕ, ◌<◌, ◌≤◌, Bool, true, false, cond, ◌||◌, nat_lt, nat_abs, Some, None, Ok, Err, Option, ok_or, refl, sym, ap, ◌∙◌, subst, arith, ℤ, w64, SFits, to_z, of_z}
 use Rattle.std.proofs.lemmas.Bool.Decides.{nat_tests}
 use Rattle.std.proofs.lemmas.Int.{to_z-of_z}
 use Rattle.std.proofs.lemmas.Result.{err_from_is_err_and}
@@ -22,11 +22,26 @@ given : (o : Option Pattern) (P : Type 0) (Q : Pattern → Type 0) (p : Pattern)
 given (Some q) P Q p m is = let e : q ≡ p = cc in subst Q e m
 given None P Q p m is = absurd (let z : ◌≡◌ {A = ℕ} 0 1 = cc in omega arith)
 
-far_left : (a b : ℕ) → greatest < a → (nat_lt greatest a || nat_lt greatest b) ≡ true
-far_left a b h = grind (arith, nat_tests)
+-- a difference as it is handed on
+abbrev passed : ℤ → ℤ
+passed d = to_z w64 (of_z w64 d)
 
-far_right : (a b : ℕ) → greatest < b → (nat_lt greatest a || nat_lt greatest b) ≡ true
-far_right a b h = grind (arith, nat_tests)
+left_refused : (dx dy : ℤ) → SFits w64 dx → (o : Option Pattern) (Q : Pattern → Type 0) (e : Refusal) → MatchOption o (greatest < nat_abs (passed dx)) Q → Err e ≡ ok_or o Beyond → (e ≡ Beyond) × (too_far dx dy ≡ true)
+unfolding too_far
+left_refused dx dy fits o Q e m is =
+    let r = refused o _ Q e m is in
+    let far : greatest < nat_abs dx = rw (to_z-of_z w64 dx fits) at r.1 in
+    (r.0, grind (arith, nat_tests))
+
+right_refused : (dx dy : ℤ) → SFits w64 dy → (o : Option Pattern) (Q : Pattern → Type 0) (e : Refusal) → MatchOption o (greatest < nat_abs (passed dy)) Q → Err e ≡ ok_or o Beyond → (e ≡ Beyond) × (too_far dx dy ≡ true)
+unfolding too_far
+right_refused dx dy fits o Q e m is =
+    let r = refused o _ Q e m is in
+    let far : greatest < nat_abs dy = rw (to_z-of_z w64 dy fits) at r.1 in
+    (r.0, grind (arith, nat_tests))
+
+measured : (d : ℤ) → SFits w64 d → (o : Option Pattern) (P : Type 0) (p : Pattern) → MatchOption o P (λ q. (nat_abs (passed d) ≤ greatest) × (q ≡ whole_pattern (passed d))) → Ok p ≡ ok_or o Beyond → (nat_abs d ≤ greatest) × (p ≡ whole_pattern d)
+measured d fits o P p m is = rw (to_z-of_z w64 d fits) at (given o P _ p m is)
 
 -- too far: nothing is raised
 nothing_raised : (t : Bool) (f g : Flags) → t ≡ true → f ≡ joined_flags f (cond t no_flags g)
@@ -36,55 +51,39 @@ near : (a b : ℕ) → a ≤ greatest → b ≤ greatest → (nat_lt greatest a 
 near a b h k = grind (arith, nat_tests)
 
 pub returns-in_err-x-clause-answer : goal.returns-in_err-x-clause-answer
-unfolding too_far
 returns-in_err-x-clause-answer g c =
     let p = err_from_is_err_and c.from_residual.result c.from_residual.ensures.1 in
-    let r = refused _ _ _ _ c.whole_pattern.ensures c.in_err-x.ensures.value in
-    let far : greatest < nat_abs c.args.dx = rw (to_z-of_z w64 c.args.dx c.ranges.dx) at r.1 in
-    let t : too_far c.args.dx c.args.dy ≡ true = far_left (nat_abs c.args.dx) (nat_abs c.args.dy) far in
-    rw (p.1, p.2, r.0, t) refl
+    let r = left_refused c.args.dx c.args.dy c.ranges.dx _ _ _ c.whole_pattern.ensures c.in_err-x.ensures.value in
+    rw (p.1, p.2, r.0, r.1) refl
 
 pub returns-in_err-x-clause-after : goal.returns-in_err-x-clause-after
-unfolding too_far
 returns-in_err-x-clause-after g c =
-    let r = refused _ _ _ _ c.whole_pattern.ensures c.in_err-x.ensures.value in
-    let far : greatest < nat_abs c.args.dx = rw (to_z-of_z w64 c.args.dx c.ranges.dx) at r.1 in
-    let t : too_far c.args.dx c.args.dy ≡ true = far_left (nat_abs c.args.dx) (nat_abs c.args.dy) far in
-    record { flags = nothing_raised _ _ _ t; mode = c.drop-guard.ensures ∙ c.new-guard.ensures.old; origin = refl }
+    let r = left_refused c.args.dx c.args.dy c.ranges.dx _ _ _ c.whole_pattern.ensures c.in_err-x.ensures.value in
+    record { flags = nothing_raised _ _ _ r.1; mode = c.drop-guard.ensures ∙ c.new-guard.ensures.old; origin = refl }
 
 pub returns-in_err-y-clause-answer : goal.returns-in_err-y-clause-answer
-unfolding too_far
 returns-in_err-y-clause-answer g c =
     let p = err_from_is_err_and c.from_residual-in_err-y.result c.from_residual-in_err-y.ensures.1 in
-    let r = refused _ _ _ _ c.whole_pattern-2.ensures c.in_err-y.ensures.value in
-    let far : greatest < nat_abs c.args.dy = rw (to_z-of_z w64 c.args.dy c.ranges.dy) at r.1 in
-    let t : too_far c.args.dx c.args.dy ≡ true = far_right (nat_abs c.args.dx) (nat_abs c.args.dy) far in
-    rw (p.1, p.2, r.0, t) refl
+    let r = right_refused c.args.dx c.args.dy c.ranges.dy _ _ _ c.whole_pattern-2.ensures c.in_err-y.ensures.value in
+    rw (p.1, p.2, r.0, r.1) refl
 
 pub returns-in_err-y-clause-after : goal.returns-in_err-y-clause-after
-unfolding too_far
 returns-in_err-y-clause-after g c =
-    let r = refused _ _ _ _ c.whole_pattern-2.ensures c.in_err-y.ensures.value in
-    let far : greatest < nat_abs c.args.dy = rw (to_z-of_z w64 c.args.dy c.ranges.dy) at r.1 in
-    let t : too_far c.args.dx c.args.dy ≡ true = far_right (nat_abs c.args.dx) (nat_abs c.args.dy) far in
-    record { flags = nothing_raised _ _ _ t; mode = c.drop-guard-in_err-y.ensures ∙ c.new-guard.ensures.old; origin = refl }
+    let r = right_refused c.args.dx c.args.dy c.ranges.dy _ _ _ c.whole_pattern-2.ensures c.in_err-y.ensures.value in
+    record { flags = nothing_raised _ _ _ r.1; mode = c.drop-guard-in_err-y.ensures ∙ c.new-guard.ensures.old; origin = refl }
 
 pub returns : goal.returns
 unfolding too_far
 returns g c =
-    let X = given _ _ _ _ c.whole_pattern.ensures c.in_ok-x.ensures.value in
-    let Y = given _ _ _ _ c.whole_pattern-2.ensures c.in_ok-y.ensures.value in
-    let a : nat_abs c.args.dx ≤ greatest = rw (to_z-of_z w64 c.args.dx c.ranges.dx) at X.0 in
-    let b : nat_abs c.args.dy ≤ greatest = rw (to_z-of_z w64 c.args.dy c.ranges.dy) at Y.0 in
-    let t : too_far c.args.dx c.args.dy ≡ false = near (nat_abs c.args.dx) (nat_abs c.args.dy) a b in
-    let x : c.in_ok-x.x ≡ whole_pattern c.args.dx = X.1 ∙ ap whole_pattern (to_z-of_z w64 c.args.dx c.ranges.dx) in
-    let y : c.in_ok-y.y ≡ whole_pattern c.args.dy = Y.1 ∙ ap whole_pattern (to_z-of_z w64 c.args.dy c.ranges.dy) in
+    let x = measured c.args.dx c.ranges.dx _ _ _ c.whole_pattern.ensures c.in_ok-x.ensures.value in
+    let y = measured c.args.dy c.ranges.dy _ _ _ c.whole_pattern-2.ensures c.in_ok-y.ensures.value in
+    let t : too_far c.args.dx c.args.dy ≡ false = near (nat_abs c.args.dx) (nat_abs c.args.dy) x.0 y.0 in
     let m = c.new-guard.ensures.mode in
     let e = c.length.ensures in
-    let after = rw (m, x, y) at e.after in
+    let after = rw (m, x.1, y.1) at e.after in
     record {
-      answer = rw t (ap Ok (rw (m, x, y) at e.answer));
+      answer = rw t (ap Ok (rw (m, x.1, y.1) at e.answer));
       after = record { flags = rw t after.flags; mode = c.drop-guard-2.ensures ∙ c.new-guard.ensures.old; origin = after.origin };
-      sheet = rw (m, x, y) at e.sheet;
+      sheet = rw (m, x.1, y.1) at e.sheet;
       kept = tt;
     }
