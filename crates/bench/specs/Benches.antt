@@ -7,6 +7,7 @@ use Rattle.bench.specs.declared.bench.Bench.{Bench}
 use Rattle.bench.specs.declared.flags.Flags.{Flags}
 use Rattle.bench.specs.declared.refusal.Refusal.{Refusal}
 use Rattle.bench.specs.declared.refusal.Refusal.TheVariants.{HighMode}
+use Rattle.bench.specs.Desks.{lowered}
 use Rattle.bench.specs.Raised.{joined_flags, no_flags}
 
 -- setting a mode by its number: above 3 it is refused, and the old one stands
@@ -36,7 +37,7 @@ module _ {S : Type 0} where
 
   -- the flags alone change
   abbrev pub cleared : Bench S → Bench S
-  cleared b = record { standing = b.standing; desk = record { flags = no_flags; sheet = b.desk.sheet; source = b.desk.source } }
+  cleared b = record { standing = b.standing; desk = lowered b.desk }
 
   -- a call raises flags, and leaves the mode and the source as they were
   pub record Raises (raised : Flags) (before after : Bench S) : Type 0 where

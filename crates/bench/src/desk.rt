@@ -3,7 +3,7 @@
 ghost use Rattle.std.specs.Prelude.{◌≡◌, [], None as NoneCase};
 ghost use Rattle.sheets.specs.Written.{values, written};
 ghost use Rattle.bench.specs.Calls.{divide_answer, fuse_answer, remainder_answer, root_answer};
-ghost use Rattle.bench.specs.Desks.{RaisesThere};
+ghost use Rattle.bench.specs.Desks.{RaisesThere, lowered};
 ghost use Rattle.bench.specs.Kinds.{is_negative, units};
 ghost use Rattle.bench.specs.Remainders.{IsNearestQuotient};
 ghost use Rattle.bench.specs.Tables.{answered, remainder_table};
@@ -29,6 +29,13 @@ pub(crate) struct Desk<S: Source> {
 }
 
 impl<S: Source> Desk<S> {
+    /// Takes all flags down.
+    pub(crate) fn clear(&mut self)
+        ensures { self.new ≡ lowered self.old }
+    {
+        self.flags = Flags::default();
+    }
+
     /// Raises the flags of an answer, and gives its pattern.
     fn give(&mut self, subnormal: bool, value: Result<Rounded, Special>) -> Pattern
         ensures pattern { result ≡ (answered subnormal value).pattern }

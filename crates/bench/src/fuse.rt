@@ -16,13 +16,7 @@ use registers::{Choice, FusedSum, Mode, Pattern, Rounded};
 fn zero_sign(mode: Mode, s: bool, t: bool) -> bool
     ensures { result ≡ zero_sign mode s t }
 {
-    if s == t {
-        return s;
-    }
-    match mode {
-        Mode::Down => true,
-        Mode::NearestEven | Mode::Up | Mode::TowardZero => false,
-    }
+    if s == t { s } else { mode == Mode::Down }
 }
 
 /// The exact sum of operands, rounded once.

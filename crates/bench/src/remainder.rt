@@ -132,13 +132,6 @@ fn remainder_scaled(x: Scaled, y: Finite) -> Difference
     divide_doubling(x.significand, x.exponent - exponent, m).nearest(exponent)
 }
 
-/// A sign, turned where `turned` says so.
-fn turn(negative: bool, turned: bool) -> bool
-    ensures { result ≡ (if turned then not negative else negative) }
-{
-    if turned { !negative } else { negative }
-}
-
 /// A sign and a magnitude as a datum.
 fn datum(negative: bool, size: Scaled) -> Datum
     ensures { denoted result ≡ finite negative (size.significand * 2 ^ size.exponent) }
@@ -155,7 +148,7 @@ fn remainder_exact(x: Operand, y: Operand) -> Datum
     ensures { denoted result ≡ finite (remainder_sign x.pattern y.pattern) (remainder_units x.pattern y.pattern) }
 {
     let z = remainder_scaled(magnitude_of(x), y.nonzero());
-    datum(turn(is_negative(x.pattern), z.turned), z.size)
+    datum(is_negative(x.pattern) != z.turned, z.size)
 }
 
 /// A finite number rounded in any mode: it is its own pattern, with no flag.

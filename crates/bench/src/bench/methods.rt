@@ -50,8 +50,7 @@ impl<S: Source> Bench<S> {
     pub fn flags(&self) -> Flags
         ensures { result ≡ self.now.desk.flags }
     {
-        let raised = self.desk.flags;
-        raised
+        self.desk.flags
     }
 
     /// How many lines the sheet has.
@@ -89,7 +88,7 @@ impl<S: Source> Bench<S> {
     pub fn clear(&mut self)
         ensures { self.new ≡ cleared self.old }
     {
-        self.desk.flags = Flags::default();
+        self.desk.clear();
     }
 
     /// `p·q + r`, rounded once. It leaves an empty sheet.
