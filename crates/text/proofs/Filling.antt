@@ -1,7 +1,8 @@
 -- A column is filled from the right: a tail, the digits before it, a byte that leads them; the blanks before them stay.
-use Rattle.std.proofs.Common.{◌≡◌, ℕ, ◌+◌, ◌-◌, ◌<◌, ◌≤◌, List, ◌∷◌, ◌++◌, length, take, drop, set, replicate, Some, None, Option, sym, ap, ◌∙◌, arith}
+use Rattle.std.proofs.Common.{◌≡◌, ℕ, ◌+◌, ◌-◌, ◌^◌, ◌<◌, ◌≤◌, List, ◌∷◌, ◌++◌, length, take, drop, set, replicate, Some, None, decimal, Option, sym, ap, ◌∙◌, arith}
 use borrow.Rule.Slice.PartMut.{put_mid}
 use Rattle.std.proofs.lemmas.List.{append-nil, drop-set, drop_all, drop_at, length-append, length-drop, length-replicate, take-append-drop, take-append-le, take-replicate, take-set, take-take}
+use Rattle.std.proofs.lemmas.Fmt.{length-decimal-le}
 use Rattle.text.specs.Pages.{justified, leads, led}
 
 -- a tail, written over the last of 14 blanks
@@ -54,6 +55,10 @@ length_led (Some b) t = omega arith
 pub leads_le : (o : Option ℕ) → leads o ≤ 1
 leads_le None = omega arith
 leads_le (Some b) = omega arith
+
+-- a byte that leads at most k digits and a tail have room
+pub room_for : (o : Option ℕ) (k n tail : ℕ) → 0 < k → n < 10 ^ k → n < 2 ^ 64 → 1 + k + tail ≤ 14 → leads o + length (decimal n) + tail ≤ 14
+room_for o k n tail some few small h = omega (arith, leads_le o, length-decimal-le k n some few small)
 
 -- a text right-justified in 14 bytes has 14 bytes just where it has no more
 pub length_justified : (t : List ℕ) → length t ≤ 14 → length (justified 14 t) ≡ 14

@@ -16,11 +16,7 @@ pub type Column = [u8; WIDTH];
 fn digit(byte: u8) -> Option<u64>
     ensures { result ≡ digit_of byte }
 {
-    if byte.is_ascii_digit() {
-        Some(u64::from(byte - b'0'))
-    } else {
-        None
-    }
+    char::from(byte).to_digit(10).map(u64::from)
 }
 
 /// Whether there is a byte, and no zero before another byte.

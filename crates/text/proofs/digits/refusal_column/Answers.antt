@@ -1,7 +1,7 @@
 -- A letter and at most three digits have room.
-use Rattle.std.proofs.Common.{arith}
-use Rattle.std.proofs.lemmas.Fmt.{length-decimal-le}
+use Rattle.std.proofs.Common.{Some, arith}
+use Rattle.text.proofs.Filling.{room_for}
 use Rattle.text.proofs.digits.refusal_column.Goals as goal
 
 pub justified-requires : goal.justified-requires
-justified-requires c = omega (arith, length-decimal-le 3 c.from.result (omega arith) (omega arith) (omega arith))
+justified-requires c = room_for (Some 82) 3 c.from.result 0 (omega arith) (omega arith) (omega arith) (omega arith)
