@@ -101,11 +101,11 @@ split_nearest kept Half g n h = sym (multiple_is g n kept h.rest h.parts h.small
 split_nearest kept Over g n h = sym (multiple_is g n kept h.rest h.parts h.small ∙ ap (λ (x : ℕ). (kept + x) * 2 ^ g) (upward_over kept h.rest (2 ^ g) h.told.1))
 
 pub width_cut_at : (w long whole e k r : ℕ) (more : Bool) (side : Side) → w ≤ 30 → long ≡ size whole → w < long
-    → ((e n : ℕ) → Held whole e more n → Splits k side (long - w + e) n) → k ≡ whole / 2 ^ (long - w)
+    → ((n : ℕ) → Held whole e more n → Splits k side (long - w + e) n) → k ≡ whole / 2 ^ (long - w)
     → r ≡ k + one (goes_up Nearest (lower_of side) (middle_of side) (is_odd k))
     → ((n : ℕ) → Held whole e more n → r * 2 ^ (e + (long - w)) ≡ nearest w n) × (r ≤ 2 ^ 30)
 width_cut_at w long whole e k r more side w30 d l splits k-is r-is = (
-  λ n h. ap (λ (x : ℕ). r * 2 ^ x) (add_comm e (long - w)) ∙ ap (λ (x : ℕ). x * 2 ^ (long - w + e)) r-is ∙ split_nearest k side (long - w + e) n (splits e n h) ∙ ap (λ (x : ℕ). multiple (x - w + e) n) d ∙ width_cut whole e n more h w (omega arith),
+  λ n h. ap (λ (x : ℕ). r * 2 ^ x) (add_comm e (long - w)) ∙ ap (λ (x : ℕ). x * 2 ^ (long - w + e)) r-is ∙ split_nearest k side (long - w + e) n (splits n h) ∙ ap (λ (x : ℕ). multiple (x - w + e) n) d ∙ width_cut whole e n more h w (omega arith),
   le_trans (cut_small whole w r (omega arith) (subst (λ (x : ℕ). r ≤ whole / 2 ^ (x - w) + 1) d (omega (arith, r-is, k-is, one_small (goes_up Nearest (lower_of side) (middle_of side) (is_odd k)))))) (pow_mono w30),
 )
   where

@@ -4,10 +4,13 @@ use lib.Ieee.{size}
 use lib.Ieee.Digits.{size-lt, size-le}
 use Rattle.registers.proofs.Fitting.{size_full}
 
+pub few_digits : (m : ℕ) → m < 2 ^ 24 → size m ≤ 24
+few_digits m few = size-le m 24 few
+
 module _ (m e s : ℕ) (some : 0 < m) (few : m < 2 ^ 24) (low : s ≤ e) (room : s ≤ 24 - size m) where
   moved : m * 2 ^ s < 2 ^ 24
   moved =
-      let l : size m ≤ 24 = size-le m 24 few in
+      let l : size m ≤ 24 = few_digits m few in
       let t : size m + s ≤ 24 = omega arith in
       let p : 2 ^ (size m + s) ≤ 2 ^ 24 = pow_mono t in
       omega (arith, shl_lt (size m) s (size-lt m), p)
@@ -22,7 +25,7 @@ module _ (m e s : ℕ) (some : 0 < m) (few : m < 2 ^ 24) (low : s ≤ e) (room :
 
   full : s ≡ 24 - size m → 2 ^ 23 ≤ m * 2 ^ s
   full all =
-      let l : size m ≤ 24 = size-le m 24 few in
+      let l : size m ≤ 24 = few_digits m few in
       let t : size m + s ≡ 24 = omega arith in
       let b : 2 ^ size m * 2 ^ s ≡ 2 ^ 24 = sym (pow-add 2 (size m) s) ∙ ap (λ (x : ℕ). 2 ^ x) t in
       let c : 2 ^ size m * 2 ^ s ≤ 2 * m * 2 ^ s = mul-le-mul_right (2 ^ s) (size_full m some) in

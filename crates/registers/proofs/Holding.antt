@@ -1,5 +1,5 @@
 -- A held number over a power: what is kept, and on which side of the middle the rest lies.
-use Rattle.std.proofs.Common.{◌≡◌, ℕ, zero, suc, ◌+◌, ◌-◌, ◌*◌, ◌/◌, ◌%◌, ◌^◌, ◌<◌, ◌≤◌, Bool, true, false, T, ◌⊎◌, sym, refl, ap, ◌∙◌, subst, inl, inr, add_assoc, mul-le-mul_right, mod-lt, mul_assoc, suc-mul, add-mul, mul-pos, zero-mul, arith, pow_pos, pow-add}
+use Rattle.std.proofs.Common.{◌≡◌, ℕ, zero, suc, ◌+◌, ◌-◌, ◌*◌, ◌/◌, ◌%◌, ◌^◌, ◌<◌, ◌≤◌, Bool, true, false, ◌⊎◌, sym, refl, ap, ◌∙◌, subst, inl, inr, add_assoc, mul-le-mul_right, mod-lt, mul_assoc, suc-mul, add-mul, mul-pos, zero-mul, arith, pow_pos, pow-add}
 use native.Mathlib.Nat.{two-pow-succ}
 use lib.Pow.{split}
 use Rattle.std.proofs.lemmas.Bool.{ltb-true, ltb-false}
@@ -86,17 +86,3 @@ split_side whole more half rest (suc t) side p hh rr g e n h =
     let x : half ≡ 2 ^ t = hh ∙ ap (λ (x : ℕ). 2 ^ x) d in
     let f : Sided side (2 * (whole % 2 ^ suc t) + one more) (4 * half) = subst (λ (y : ℕ). Sided side (2 * y + one more) (4 * half)) rr g in
     by_side whole t e n more h side (subst (λ (y : ℕ). Sided side (2 * (whole % 2 ^ suc t) + one more) (4 * y)) x f)
-
--- a number that holds nothing whole is zero, since a part comes with a large whole
-pub held_zero : (whole e n : ℕ) (more : Bool) → (T more → 2 ^ 32 ≤ whole) → whole ≡ 0 → Held whole e more n → n ≡ 0
-held_zero whole e n more big z h = go more refl
-  where
-    go : (b : Bool) → more ≡ b → n ≡ 0
-    go true t =
-        let l : 2 ^ 32 ≤ whole = big (subst T (sym t) tt) in
-        absurd (omega arith)
-    go false t = omega (arith, h.parts, ap (λ (x : ℕ). x * 2 ^ e) z, zero-mul (2 ^ e), ltb-false 0 h.rest (sym h.told ∙ t))
-
--- and one that holds something is not
-pub held_some : (whole e n : ℕ) (more : Bool) → 0 < whole → Held whole e more n → 0 < n
-held_some whole e n more p h = omega (arith, h.parts, mul-pos p (pow_pos e))

@@ -18,3 +18,4 @@ pub mod Spacing
 pub mod Related
 pub mod Signs
 pub mod Granted
+pub mod Printed

@@ -1,12 +1,12 @@
 -- Whole numbers are told in order, and a value has one right rounding.
-use Rattle.std.proofs.Common.{◌≡◌, ℕ, ◌+◌, ◌-◌, ◌*◌, ◌%◌, ◌^◌, ◌<◌, true, false, cond, leb, refl, ap, ◌∙◌, inl, inr, mul-lt-mul_of_pos_right, zero-mul, arith, pow_pos}
+use Rattle.std.proofs.Common.{◌≡◌, ℕ, ◌+◌, ◌-◌, ◌*◌, ◌%◌, ◌^◌, ◌<◌, true, false, refl, ap, ◌∙◌, inl, inr, mul-lt-mul_of_pos_right, zero-mul, arith, pow_pos}
 use Prim.Native.Nat.{compare, Ordering}
 use lib.Dec.{is_le}
 use Rattle.std.proofs.lemmas.Bool.{cases_order, cases_eq, both_ways, leb-true, eqb-false}
 use Rattle.registers.specs.declared.mode.Way.{Way}
 use Rattle.registers.specs.declared.mode.Way.TheVariants.{Nearest, Inward, Outward}
 use Rattle.registers.specs.Range.{bias}
-use Rattle.registers.specs.Binary32.{grid32, place_on, rounding, beyond, is_less, is_odd, beside_whole}
+use Rattle.registers.specs.Binary32.{is_less, is_odd, beside_whole}
 use Rattle.registers.specs.Rightly.{Ordered, ByNearest, Rightly}
 use Rattle.registers.proofs.Grids.{Rising, rising_mono}
 use Rattle.registers.proofs.Compared.{cmp_lt}
@@ -57,12 +57,3 @@ module _ (G : ℕ → ℕ) (rises : Rising G) (beside : ℕ → Ordering) (value
       | inr g ↦ absurd (both_ways (is_less (beside (2 * G r))) y.not_below (x.least r g))
     ]
   ]
-
--- what the rounding gives is told by the pattern without a bound
-pub rounding_pattern : (way : Way) (beside : ℕ → Ordering) → (rounding way beside).pattern ≡ cond (leb 0x7F800000 (place_on grid32 31 way beside)) (beyond way) (place_on grid32 31 way beside)
-unfolding rounding place_on
-rounding_pattern way beside = refl
-
-pub rounding_overflow : (way : Way) (beside : ℕ → Ordering) → (rounding way beside).overflow ≡ leb 0x7F800000 (place_on grid32 31 way beside)
-unfolding rounding place_on
-rounding_overflow way beside = refl

@@ -11,9 +11,6 @@ use Rattle.registers.specs.Rightly.{Ordered, ByNearest, ByInward, ByOutward, Rig
 use Rattle.registers.proofs.Grids.{Rising, rising_mono}
 
 -- the tests of an ordering
-less_le : (o : Ordering) → o ≡ Ordering.lt → is_le o ≡ true
-less_le o e = ap is_le e
-
 pub not_le_gt : (o : Ordering) → is_le o ≡ false → o ≡ Ordering.gt
 not_le_gt Ordering.lt e = absurd (both_ways true e refl)
 not_le_gt Ordering.eq e = absurd (both_ways true e refl)

@@ -1,8 +1,6 @@
 -- Register numbers as terms of a sum.
-use Rattle.std.proofs.Common.{◌≡◌, ℕ, ◌+◌, ◌-◌, ◌*◌, ◌^◌, ◌<◌, ◌≤◌, sym, ap, ◌∙◌, inl, inr, mul_assoc, mul-le-mul, mul-zero, zero-mul, arith, pow-add}
+use Rattle.std.proofs.Common.{◌≡◌, ℕ, ◌+◌, ◌-◌, ◌*◌, ◌^◌, sym, ap, ◌∙◌, mul_assoc, arith, pow-add}
 use native.Mathlib.Nat.{mul-mul-mul_comm}
-use Rattle.std.proofs.lemmas.Bool.{cases_lt}
-use Rattle.std.proofs.lemmas.Nat.{mul-lt}
 use Rattle.registers.specs.Range.{bias, bias_is, unit}
 
 pub addend_size : (w e n : ℕ) → w * 2 ^ e ≡ n → w * 2 ^ (e + unit) ≡ n * 2 ^ bias
@@ -12,24 +10,6 @@ addend_size w e n h =
 
 pub product_size : (u v d w e m n : ℕ) → u ≡ v * w → v * 2 ^ d ≡ m → w * 2 ^ e ≡ n → u * 2 ^ (d + e) ≡ m * n
 product_size u v d w e m n i h k = ap (λ (x : ℕ). x * 2 ^ (d + e)) i ∙ ap (λ (x : ℕ). v * w * x) (pow-add 2 d e) ∙ mul-mul-mul_comm v w (2 ^ d) (2 ^ e) ∙ ap (λ (x : ℕ). x * (w * 2 ^ e)) h ∙ ap (λ (x : ℕ). m * x) k
-
-pub product_fits : (u v w : ℕ) → u ≡ v * w → v < 2 ^ 30 → w < 2 ^ 30 → (0 < v → 2 ^ 29 ≤ v) → (0 < w → 2 ^ 29 ≤ w) → (u < 2 ^ 60) × (0 < u → 2 ^ 29 ≤ u)
-product_fits u v w i a b f g = (
-  omega (arith, i, mul-lt v w (2 ^ 30) (2 ^ 30) a b),
-  λ p. elim (cases_lt 0 v) [
-    | inl x ↦ elim (cases_lt 0 w) [
-      | inl y ↦
-          let l : 2 ^ 29 * 2 ^ 29 ≤ v * w = mul-le-mul (f x) (g y) in
-          omega (arith, l, i)
-      | inr y ↦
-          let z : w ≡ 0 = omega arith in
-          absurd (omega (arith, i, ap (λ (x : ℕ). v * x) z, mul-zero v))
-    ]
-    | inr x ↦
-        let z : v ≡ 0 = omega arith in
-        absurd (omega (arith, i, ap (λ (x : ℕ). x * w) z, zero-mul w))
-  ],
-)
 
 -- a significand of `long` digits moved to 30
 pub finite_size : (sig k long S : ℕ) → S * 2 ^ long ≡ sig * 2 ^ 30 → S * 2 ^ (k + long + (unit - 149 - 30)) ≡ sig * 2 ^ k * 2 ^ (bias - 149)

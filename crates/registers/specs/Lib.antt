@@ -11,3 +11,4 @@ pub mod Modes
 pub mod Rightly
 pub mod Coding
 pub mod Lines
+pub mod Texts

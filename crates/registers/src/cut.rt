@@ -4,9 +4,10 @@ ghost use Rattle.std.specs.Prelude.{◌≡◌, ℕ, ◌+◌, ◌*◌, ◌/◌, �
 ghost use Rattle.std.specs.Float.Ieee.{size};
 ghost use Rattle.registers.specs.Binary32.{goes_up, is_odd};
 ghost use Rattle.registers.specs.declared.mode.Way.TheVariants.{Nearest as NearestWay};
-ghost use Rattle.registers.specs.Held.{Held};
+ghost use Rattle.registers.specs.Held.{Holds};
 ghost use Rattle.registers.specs.Sides.{Sided, Splits, lower_of, middle_of, one};
 
+use crate::exact::Exact;
 use crate::mode::Way;
 
 /// Where a number lies between two neighbours.
@@ -45,14 +46,6 @@ fn power(k: u32) -> u128
     1 << k
 }
 
-/// The low `k` bits of `n`.
-fn low_bits(n: u128, k: u32) -> u128
-    requires { k < 128 }
-    ensures { result ≡ n % 2 ^ k }
-{
-    n & (power(k) - 1)
-}
-
 /// Where a rest lies that has `rest` units and, where `more` says so, a part of one, of a step of twice `half` units.
 fn side_of(rest: u128, half: u128, more: bool) -> Side
     requires { 0 < half }
@@ -70,17 +63,19 @@ fn side_of(rest: u128, half: u128, more: bool) -> Side
     Side::On
 }
 
-/// A number of `whole` units and, where `more` says so, a part of one, over `2^shift` units.
-pub(crate) fn split(whole: u128, more: bool, shift: u32) -> Part
-    requires { (0 < shift) × (shift < 128) }
-    ensures splits { (e n : ℕ) → Held whole e more n → Splits result.kept result.side (shift + e) n }
-    ensures kept { result.kept ≡ whole / 2 ^ shift }
-{
-    let half = power(shift - 1);
-    let rest = low_bits(whole, shift);
-    Part {
-        kept: whole >> shift,
-        side: side_of(rest, half, more),
+impl Exact {
+    /// The value over `2^shift` units.
+    pub(crate) fn split(self, shift: u32) -> Part
+        requires { (0 < shift) × (shift < 128) }
+        ensures splits { (n : ℕ) → Holds self n → Splits result.kept result.side (shift + self.exponent) n }
+        ensures kept { result.kept ≡ self.whole / 2 ^ shift }
+    {
+        let half = power(shift - 1);
+        let rest = self.whole & (power(shift) - 1);
+        Part {
+            kept: self.whole >> shift,
+            side: side_of(rest, half, self.more),
+        }
     }
 }
 
@@ -98,14 +93,16 @@ pub(crate) fn goes_up(way: Way, side: Side, odd: bool) -> bool
     }
 }
 
-/// The multiple that a cut number is rounded to.
-pub(crate) fn nearest_part(part: Part) -> u128
-    requires { part.kept < 2 ^ 127 }
-    ensures { result ≡ part.kept + one (goes_up NearestWay (lower_of part.side) (middle_of part.side) (is_odd part.kept)) }
-{
-    if goes_up(Way::Nearest, part.side, part.kept % 2 == 1) {
-        part.kept + 1
-    } else {
-        part.kept
+impl Part {
+    /// The multiple that the number is rounded to.
+    pub(crate) fn nearest(self) -> u128
+        requires { self.kept < 2 ^ 127 }
+        ensures { result ≡ self.kept + one (goes_up NearestWay (lower_of self.side) (middle_of self.side) (is_odd self.kept)) }
+    {
+        if goes_up(Way::Nearest, self.side, self.kept % 2 == 1) {
+            self.kept + 1
+        } else {
+            self.kept
+        }
     }
 }

@@ -8,35 +8,34 @@ ghost use Rattle.registers.specs.Laws.{NearestLaws};
 ghost use Rattle.registers.specs.Nearest.{nearest};
 ghost use Rattle.registers.specs.Range.{span, unit};
 
-use crate::cut::{length, nearest_part, split};
-use crate::exact::Exact;
+use crate::cut::length;
+use crate::exact::{Coarse, Exact};
 use crate::limits::{SPAN, UNIT};
 use crate::register::{Number, Refusal, Register};
 
-/// A value rounded to `width` bits, to nearest with ties to even.
-pub(crate) fn to_width(x: Exact, width: u32) -> Exact
-    requires { (0 < width) × ((width ≤ 30) × (x.exponent < 2 ^ 19)) }
-    ensures rounds { (n : ℕ) → Holds x n → result.whole * 2 ^ result.exponent ≡ nearest width n }
-    ensures whole { result.more ≡ false }
-    ensures small { result.whole ≤ 2 ^ 30 }
-    ensures sign { result.negative ≡ x.negative }
-    ensures laws { NearestLaws }
-{
-    let long = length(x.whole);
-    if long <= width {
-        return Exact {
-            negative: x.negative,
-            whole: x.whole,
-            exponent: x.exponent,
-            more: false,
-        };
-    }
-    let shift = long - width;
-    Exact {
-        negative: x.negative,
-        whole: nearest_part(split(x.whole, x.more, shift)),
-        exponent: x.exponent + shift,
-        more: false,
+impl Exact {
+    /// The value rounded to `width` bits, to nearest with ties to even.
+    #[tactic(auto, using(crate::proofs::Lawful::nearest_laws))]
+    pub(crate) fn to_width(self, width: u32) -> Coarse
+        requires { (0 < width) × (width ≤ 30) }
+        ensures rounds { (n : ℕ) → Holds self n → result.whole * 2 ^ result.exponent ≡ nearest width n }
+        ensures sign { result.negative ≡ self.negative }
+        ensures laws { NearestLaws }
+    {
+        let long = length(self.whole);
+        if long <= width {
+            return Coarse {
+                negative: self.negative,
+                whole: self.whole,
+                exponent: self.exponent,
+            };
+        }
+        let shift = long - width;
+        Coarse {
+            negative: self.negative,
+            whole: self.split(shift).nearest(),
+            exponent: self.exponent + shift,
+        }
     }
 }
 
@@ -57,23 +56,24 @@ fn in_range(top: u32) -> bool
     30 + UNIT <= top && top <= 30 + SPAN + UNIT
 }
 
-/// A rounded value as a register number.
-pub(crate) fn to_register(x: Exact) -> Result<Register, Refusal>
-    requires { x.whole ≤ 2 ^ 30 }
-    ensures { answered result ≡ kept x.negative (x.whole * 2 ^ x.exponent) }
-{
-    if x.whole == 0 {
-        return Ok(Register::Zero);
+impl Coarse {
+    /// The value as a register number.
+    #[tactic(auto, using(crate::proofs::Keeping::kept_refused, crate::proofs::Keeping::kept_given))]
+    pub(crate) fn to_register(self) -> Result<Register, Refusal>
+        ensures { answered result ≡ kept self.negative (self.whole * 2 ^ self.exponent) }
+    {
+        if self.whole == 0 {
+            return Ok(Register::Zero);
+        }
+        let long = length(self.whole);
+        let top = self.exponent + long;
+        if !in_range(top) {
+            return Err(Refusal::Exponent);
+        }
+        Ok(Register::Nonzero(Number {
+            negative: self.negative,
+            exponent: top - 30 - UNIT,
+            significand: normal(self.whole, long),
+        }))
     }
-    let long = length(x.whole);
-    let top = x.exponent + long;
-    if !in_range(top) {
-        return Err(Refusal::Exponent);
-    }
-    let significand = normal(x.whole, long);
-    Ok(Register::Nonzero(Number {
-        negative: x.negative,
-        exponent: top - 30 - UNIT,
-        significand,
-    }))
 }

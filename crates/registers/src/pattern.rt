@@ -1,6 +1,7 @@
 //! Patterns of binary32 and what they stand for.
 
 pub mod codes;
+pub(crate) mod magnitude;
 pub mod parts;
 
 ghost use Rattle.std.specs.Prelude.{◌≡◌, ◌^◌, ◌<◌, ◌≤◌};

@@ -15,6 +15,7 @@ pub struct Number {
 }
 
 /// A register number. Zero has no sign.
+// No Option: zero is a number with a value and a text of its own, not one that is missing, so this name is the plainer one.
 #[derive(Clone, Copy, PartialEq, Eq, Debug)]
 pub enum Register {
     Zero,

@@ -10,18 +10,18 @@ ghost use Rattle.registers.specs.Values.{value};
 use crate::exact::Exact;
 use crate::fused::FusedSum;
 use crate::mode::{Mode, Rounded};
-use crate::place::to_pattern;
 
-/// A value rounded once to binary32, or nothing where it is zero.
-fn round_exact(x: Exact, mode: Mode) -> Option<Rounded>
-    ensures answer { (n : ℕ) → Holds x n → result ≡ (if nat_eq n 0 then NoneCase else SomeCase (rounded mode x.negative (beside_whole n))) }
-    ensures right { RightRounding }
-    ensures same_side { SameSideSameRounding }
-{
-    if x.whole == 0 {
-        return None;
+impl Exact {
+    /// The value rounded once to binary32, or nothing where it is zero.
+    #[tactic(auto, using(crate::proofs::Standing::right_rounding, crate::proofs::Standing::same_side))]
+    fn round(self, mode: Mode) -> Option<Rounded>
+        ensures answer { (n : ℕ) → Holds self n → result ≡ (if nat_eq n 0 then NoneCase else SomeCase (rounded mode self.negative (beside_whole n))) }
+        ensures right { RightRounding }
+        ensures same_side { SameSideSameRounding }
+    {
+        let x = self.nonzero()?;
+        Some(x.to_pattern(mode))
     }
-    Some(to_pattern(x, mode))
 }
 
 impl FusedSum {
@@ -32,7 +32,7 @@ impl FusedSum {
         ensures right { RightRounding }
         ensures same_side { SameSideSameRounding }
     {
-        round_exact(self.exact(), mode)
+        self.exact().round(mode)
     }
 
     /// The sum's magnitude formed exactly and rounded once, straight to binary32, in a mode, under a sign that the caller gives.
@@ -49,6 +49,6 @@ impl FusedSum {
             exponent: exact.exponent,
             more: exact.more,
         };
-        round_exact(magnitude, mode)
+        magnitude.round(mode)
     }
 }

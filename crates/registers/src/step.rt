@@ -5,7 +5,6 @@ ghost use Rattle.registers.specs.Fused.{answered, fused, fused_at};
 ghost use Rattle.registers.specs.Laws.{NearestLaws};
 ghost use Rattle.registers.specs.Values.{value};
 
-use crate::fit::{to_register, to_width};
 use crate::fused::FusedSum;
 use crate::register::{Refusal, Register};
 
@@ -16,11 +15,12 @@ impl FusedSum {
         ensures answer { answered result ≡ fused_at width self.choice (value self.r) (value self.p) (value self.q) }
         ensures laws { NearestLaws }
     {
-        to_register(to_width(self.exact(), width))
+        self.exact().to_width(width).to_register()
     }
 
     /// The sum formed exactly and rounded once, to nearest with ties to even, to `width` significant bits.
     /// Refused where the width is neither 24 nor 30, and else where the rounded value's exponent is out of range.
+    #[tactic(auto, using(crate::proofs::Lawful::nearest_laws))]
     pub fn step(self, width: u32) -> Result<Register, Refusal>
         ensures answer { answered result ≡ fused width self.choice (value self.r) (value self.p) (value self.q) }
         ensures laws { NearestLaws }

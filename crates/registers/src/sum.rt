@@ -17,30 +17,51 @@ use crate::register::{Choice, Register};
 /// Terms whose exponents are closer than this are added exactly.
 const NEAR: u32 = 64;
 
+/// A signed whole number.
+#[derive(Clone, Copy)]
+struct Signed {
+    negative: bool,
+    whole: u128,
+    ghost small: { whole < 2 ^ 123 },
+}
+
+impl Term {
+    /// Its sign and its whole number.
+    fn signed(self) -> Signed
+        ensures sign { result.negative ≡ self.negative }
+        ensures size { result.whole ≡ self.whole }
+    {
+        Signed {
+            negative: self.negative,
+            whole: self.whole,
+        }
+    }
+}
+
 /// The sum of two signed whole numbers.
-fn signed_sum(s: bool, a: u128, t: bool, b: u128) -> (bool, u128)
-    requires { (a < 2 ^ 123) × (b < 2 ^ 123) }
-    ensures sign { result.0 ≡ sum_sign s a t b }
-    ensures size { result.1 ≡ sum_size s a t b }
+// A pair, and not `Signed`: a sum of two may pass the bound of the type.
+fn signed_sum(a: Signed, b: Signed) -> (bool, u128)
+    ensures sign { result.0 ≡ sum_sign a.negative a.whole b.negative b.whole }
+    ensures size { result.1 ≡ sum_size a.negative a.whole b.negative b.whole }
     ensures small { result.1 < 2 ^ 124 }
 {
-    if s == t {
-        (s, a + b)
-    } else if a < b {
-        (t, b - a)
+    if a.negative == b.negative {
+        (a.negative, a.whole + b.whole)
+    } else if a.whole < b.whole {
+        (b.negative, b.whole - a.whole)
     } else {
-        (s && b < a, a - b)
+        (a.negative && b.whole < a.whole, a.whole - b.whole)
     }
 }
 
 /// The sum of two signed whole numbers of units of `2^exponent`.
-fn near(s: bool, a: u128, t: bool, b: u128, exponent: u32) -> Exact
-    requires { (a < 2 ^ 123) × ((b < 2 ^ 123) × (exponent < 2 ^ 19)) }
-    ensures held { Holds result (sum_size s (a * 2 ^ exponent) t (b * 2 ^ exponent)) }
-    ensures sign { result.negative ≡ sum_sign s (a * 2 ^ exponent) t (b * 2 ^ exponent) }
-    ensures low { result.exponent < 2 ^ 19 }
+#[tactic(auto, using(crate::proofs::Adding::near_held, crate::proofs::Adding::near_sign))]
+fn near(a: Signed, b: Signed, exponent: u32) -> Exact
+    requires { exponent < 2 ^ 19 }
+    ensures held { Holds result (sum_size a.negative (a.whole * 2 ^ exponent) b.negative (b.whole * 2 ^ exponent)) }
+    ensures sign { result.negative ≡ sum_sign a.negative (a.whole * 2 ^ exponent) b.negative (b.whole * 2 ^ exponent) }
 {
-    let (negative, whole) = signed_sum(s, a, t, b);
+    let (negative, whole) = signed_sum(a, b);
     Exact {
         negative,
         whole,
@@ -75,16 +96,19 @@ fn folded(high: Term, unlike: bool) -> Exact
 }
 
 /// The sum of two terms other than zero, the first of which has the higher exponent.
+#[tactic(auto, using(crate::proofs::Adding::far_held, crate::proofs::Adding::raise_parts))]
 fn ordered(high: Term, low: Term) -> Exact
     requires { (low.exponent ≤ high.exponent) × ((0 < high.whole) × (0 < low.whole)) }
     ensures held { Holds result (sum_size high.negative (size_of high) low.negative (size_of low)) }
     ensures sign { result.negative ≡ sum_sign high.negative (size_of high) low.negative (size_of low) }
-    ensures low { result.exponent < 2 ^ 19 }
 {
     let apart = high.exponent - low.exponent;
     if apart < NEAR {
-        let whole = raised(high.whole, apart);
-        return near(high.negative, whole, low.negative, low.whole, low.exponent);
+        let raised_high = Signed {
+            negative: high.negative,
+            whole: raised(high.whole, apart),
+        };
+        return near(raised_high, low.signed(), low.exponent);
     }
     folded(high, high.negative != low.negative)
 }
@@ -93,12 +117,11 @@ fn ordered(high: Term, low: Term) -> Exact
 fn sum(a: Term, b: Term) -> Exact
     ensures held { Holds result (sum_size a.negative (size_of a) b.negative (size_of b)) }
     ensures sign { result.negative ≡ sum_sign a.negative (size_of a) b.negative (size_of b) }
-    ensures low { result.exponent < 2 ^ 19 }
 {
     if a.whole == 0 {
-        near(a.negative, 0, b.negative, b.whole, b.exponent)
+        near(a.signed(), b.signed(), b.exponent)
     } else if b.whole == 0 {
-        near(a.negative, a.whole, b.negative, 0, a.exponent)
+        near(a.signed(), b.signed(), a.exponent)
     } else if a.exponent < b.exponent {
         ordered(b, a)
     } else {
@@ -127,6 +150,7 @@ fn term_of(r: Register) -> Term
 }
 
 /// The addend as a term, in squared units.
+#[tactic(auto, using(crate::proofs::Scaling::addend_size))]
 fn addend(r: Register) -> Term
     ensures size { size_of result ≡ (value r).units * 2 ^ bias }
     ensures sign { result.negative ≡ (value r).negative }
@@ -144,8 +168,7 @@ fn whole_product(a: u128, b: u128) -> u128
     requires { (a < 2 ^ 30) × (b < 2 ^ 30) }
     ensures { result ≡ a * b }
 {
-    let all_bits = a * b;
-    all_bits
+    a * b
 }
 
 /// The sign of a product of two numbers in the sum.
@@ -159,6 +182,7 @@ fn product_sign(choice: Choice, p: bool, q: bool) -> bool
 }
 
 /// The product as a term with its sign in the sum, in squared units.
+#[tactic(auto, using(crate::proofs::Scaling::product_size))]
 fn product(choice: Choice, p: Register, q: Register) -> Term
     ensures size { size_of result ≡ (value p).units * (value q).units }
     ensures sign { result.negative ≡ product_sign choice (value p) (value q) }
@@ -177,7 +201,6 @@ impl FusedSum {
     pub(crate) fn exact(self) -> Exact
         ensures held { Holds result (fused_size self.choice (value self.r) (value self.p) (value self.q)) }
         ensures sign { result.negative ≡ fused_sign self.choice (value self.r) (value self.p) (value self.q) }
-        ensures low { result.exponent < 2 ^ 19 }
     {
         sum(addend(self.r), product(self.choice, self.p, self.q))
     }

@@ -49,19 +49,22 @@ mod tests {
         );
     }
 
-    fn builds(exponent: i32, significand: u32) -> bool {
-        Number::new(true, exponent, significand).is_some()
-    }
+    // An exponent, a significand, and whether a register number has them.
+    const PARTS: [(i32, u32, bool); 7] = [
+        (LEAST_EXPONENT, 0x2000_0000, true),
+        (GREATEST_EXPONENT, 0x3FFF_FFFF, true),
+        (LEAST_EXPONENT - 1, 0x2000_0000, false),
+        (GREATEST_EXPONENT + 1, 0x2000_0000, false),
+        (0, 0x1FFF_FFFF, false),
+        (0, 0x4000_0000, false),
+        (i32::MIN, u32::MAX, false),
+    ];
 
     #[test]
     fn bounds_of_register_numbers(rt: HostRuntime) {
-        assert!(rt; builds(LEAST_EXPONENT, 0x2000_0000));
-        assert!(rt; builds(GREATEST_EXPONENT, 0x3FFF_FFFF));
-        assert!(rt; !builds(LEAST_EXPONENT - 1, 0x2000_0000));
-        assert!(rt; !builds(GREATEST_EXPONENT + 1, 0x2000_0000));
-        assert!(rt; !builds(0, 0x1FFF_FFFF));
-        assert!(rt; !builds(0, 0x4000_0000));
-        assert!(rt; !builds(i32::MIN, u32::MAX));
+        for (exponent, significand, builds) in PARTS {
+            assert_eq!(rt; Number::new(true, exponent, significand).is_some(), builds);
+        }
     }
 
     #[test]

@@ -4,10 +4,11 @@ ghost use Rattle.std.specs.Prelude.{◌≡◌, ◌+◌, ◌*◌, ◌^◌, ◌<�
 ghost use Rattle.registers.specs.Binary32.{magnitude as magnitude_of};
 ghost use Rattle.registers.specs.Coding.{NumberComesBack, PatternComesBack, denoted, encoded, encoding, finite, finite_meaning, meaning};
 
+use crate::pattern::magnitude::Magnitude;
 use crate::pattern::{Datum, Finite, INFINITY, Pattern};
-use crate::place::with_sign;
 
 /// The finite number other than zero of a sign and of a magnitude's pattern.
+#[tactic(auto, using(crate::proofs::Grids::magnitude_low, crate::proofs::Grids::magnitude_normal))]
 fn finite_of(negative: bool, magnitude: u32) -> Finite
     requires { (0 < magnitude) × (magnitude < 0x7F800000) }
     ensures { finite_meaning result ≡ finite negative (magnitude_of magnitude) }
@@ -27,15 +28,19 @@ fn finite_of(negative: bool, magnitude: u32) -> Finite
 }
 
 /// The pattern of a finite number's magnitude.
-fn magnitude_of(x: Finite) -> u32
-    ensures value { result ≡ encoded (x.significand * 2 ^ x.exponent) }
-    ensures small { result < 0x7F800000 }
+#[tactic(auto, using(crate::proofs::Encodings::encoded_at))]
+fn magnitude_of(x: Finite) -> Magnitude
+    ensures value { result.bits ≡ encoded (x.significand * 2 ^ x.exponent) }
+    ensures small { result.bits < 0x7F800000 }
 {
-    x.exponent * 0x80_0000 + x.significand
+    Magnitude {
+        bits: x.exponent * 0x80_0000 + x.significand,
+    }
 }
 
 impl Pattern {
     /// What it stands for. Every pattern but a NaN's comes back by `encode`.
+    #[tactic(auto, using(crate::proofs::Encodings::zero_meaning, crate::proofs::Encodings::meaning_finite))]
     pub fn decode(self) -> Datum
         ensures value { denoted result ≡ meaning self.bits }
         ensures back { PatternComesBack self.bits (denoted result) }
@@ -59,15 +64,16 @@ impl Pattern {
 
 impl Datum {
     /// Its pattern, which for every NaN is 7FC00000. Every number comes back by `decode`.
+    #[tactic(auto, using(crate::proofs::Encodings::encoded_zero, crate::proofs::Encodings::number_back))]
     pub fn encode(self) -> Pattern
         ensures value { result.bits ≡ encoding (denoted self) }
         ensures back { NumberComesBack (denoted self) result.bits }
     {
         match self {
             Datum::Nan { quiet: _ } => Pattern { bits: 0x7FC0_0000 },
-            Datum::Infinity { negative } => with_sign(negative, INFINITY),
-            Datum::Zero { negative } => with_sign(negative, 0),
-            Datum::Finite(x) => with_sign(x.negative, magnitude_of(x)),
+            Datum::Infinity { negative } => Magnitude { bits: INFINITY }.signed(negative),
+            Datum::Zero { negative } => Magnitude { bits: 0 }.signed(negative),
+            Datum::Finite(x) => magnitude_of(x).signed(x.negative),
         }
     }
 }

@@ -7,6 +7,7 @@ use crate::cut::length;
 use crate::pattern::Finite;
 
 /// The number in its one form: the significand moved up until it has 24 bits or the exponent is 0.
+#[tactic(auto, using(crate::proofs::Formed::few_digits, crate::proofs::Formed::form, crate::proofs::Formed::same))]
 fn normal_form(negative: bool, significand: u32, exponent: u32) -> Finite
     requires { (0 < significand) × ((significand < 2 ^ 24) × (exponent ≤ 253)) }
     ensures { finite_meaning result ≡ finite negative (significand * 2 ^ exponent) }
@@ -20,6 +21,7 @@ fn normal_form(negative: bool, significand: u32, exponent: u32) -> Finite
     }
 }
 
+// A register number is asked the same. A trait for questions of one line each would be no plainer.
 impl Finite {
     /// The number `± significand · 2^exponent` units of `2^-149`.
     /// Nothing where the significand is 0 or has more than 24 bits, or where the exponent is above 253.

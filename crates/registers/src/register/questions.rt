@@ -58,6 +58,7 @@ impl Number {
 impl From<Finite> for Number {
     ghost from_gives = { λ x n. number_value n ≡ finite_value x };
 
+    #[tactic(auto, using(crate::proofs::Scaling::finite_size))]
     fn from(x: Finite) -> Number {
         let long = length(x.significand as u128);
         Number {
