@@ -1,7 +1,5 @@
 //! Register numbers for the examples.
 
-ghost use Rattle.registers.specs.Values.{Buildable};
-
 use registers::{Datum, Number, Pattern, Register};
 
 /// The register number of a pattern; zero where that is not finite.
@@ -12,9 +10,7 @@ pub(crate) fn register(bits: u32) -> Register {
     }
 }
 
-/// The register number with these parts.
-pub(crate) fn number(negative: bool, exponent: i32, significand: u32) -> Register
-    requires { Buildable exponent significand }
-{
-    Register::Nonzero(Number::new(negative, exponent, significand).unwrap())
+/// The register number with these parts; zero where they are out of range.
+pub(crate) fn number(negative: bool, exponent: i32, significand: u32) -> Register {
+    Number::new(negative, exponent, significand).map_or(Register::Zero, Register::Nonzero)
 }
