@@ -22,6 +22,7 @@ fn result<S: Source>(bench: &mut Bench<S>, command: Command) -> Result<Answer, R
         Command::Root(a) => Answer::Pattern(bench.root(a)),
         Command::Remainder(x, y) => Answer::Pattern(bench.remainder(x, y)),
         Command::Count(a, b) => Answer::Counted(bench.count(a, b)?),
+        // A cast, and no `From`: there is none from `u32` to `usize`, and a `TryFrom` could fail.
         Command::Line(n) => Answer::Register(bench.line(n as usize)?),
         Command::Last => bench.last().map_or(Answer::NoLine, Answer::Register),
     })

@@ -30,7 +30,7 @@ fn billionths(x: Number) -> Option<u128> {
         ..-71 => Some(0),
         exponent => {
             let product = u128::from(x.significand()) * 1_000_000_000;
-            Some(nearest_quotient(product, (29 - exponent) as u32))
+            Some(nearest_quotient(product, exponent.abs_diff(29)))
         }
     }
 }

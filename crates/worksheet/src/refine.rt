@@ -42,6 +42,7 @@ impl Constants {
 }
 
 /// A fused step of width 30.
+// Four parameters by place, and no literal of the sum at each call: a round reads as its formula so. The sources keep theirs to themselves.
 fn step(r: Register, choice: Choice, p: Register, q: Register) -> Result<Register, Refusal>
     ensures { answered result ≡ fused 30 choice (value r) (value p) (value q) }
 {
