@@ -9,8 +9,9 @@ ghost use Rattle.registers.specs.Values.{value};
 ghost use Rattle.sheets.specs.Closed.{closing_size};
 
 use crate::closing::Closing;
+use crate::steps::corrected;
 use registers::mode::Rounded;
-use registers::{Choice, FusedSum, Mode, Register};
+use registers::{FusedSum, Mode, Register};
 
 impl Closing {
     /// The closing value `r + p·q`.
@@ -19,13 +20,16 @@ impl Closing {
         ensures { closing_size result ≡ fused_size Plus (value r) (value p) (value q) }
     {
         Closing {
-            sum: FusedSum {
-                r,
-                choice: Choice::Plus,
-                p,
-                q,
-            },
+            sum: corrected(r, p, q),
         }
+    }
+
+    /// The sum whose value it is, before it is rounded.
+    pub fn sum(self) -> FusedSum
+        ensures { result ≡ self.sum }
+    {
+        let Closing { sum } = self;
+        sum
     }
 
     /// The value rounded once, straight to binary32, in a mode, under a sign, with the flags that this raises.
