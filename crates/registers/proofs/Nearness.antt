@@ -203,6 +203,7 @@ multiple_near k n p a b =
     e ∙ ap (λ (t : ℕ). t * 2 ^ k) z
 
 -- a number of exactly `w` bits that is nearer than a part of 2 ^ (w + 1) of itself is the rounding
+-- (no proof cites it; it stands because no other fact states it)
 pub nearest_near : (w q j n : ℕ) → q < 2 ^ w → 2 ^ w ≤ 2 * q → 2 * 2 ^ w * (q * 2 ^ j - n) < q * 2 ^ j → 2 * 2 ^ w * (n - q * 2 ^ j) < q * 2 ^ j → nearest w n ≡ q * 2 ^ j
 nearest_near w q j n few full low high = elim (cases_lt n (2 ^ (w + j))) [
   | inl l ↦ elim (cases_lt (2 * n) (2 ^ (w + j))) [

@@ -9,7 +9,8 @@ use Rattle.std.proofs.lemmas.Bool.{ltb-false, le-leb, lt-ltb, le-ltb, cases_Bool
 use Rattle.registers.specs.declared.mode.Way.{Way}
 use Rattle.registers.specs.declared.cut.Side.{Side}
 use Rattle.registers.specs.declared.cut.Side.TheVariants.{On, Under, Half, Over}
-use Rattle.registers.specs.Held.{Held}
+use Rattle.registers.specs.declared.exact.Nonzero.{Nonzero}
+use Rattle.registers.specs.Held.{Held, Holds}
 use Rattle.registers.specs.Sides.{Sided, Splits, lower_of, middle_of}
 use Rattle.registers.specs.Range.{bias, bias_is, unit}
 use Rattle.registers.specs.Binary32.{magnitude, grid32, grid_wide, seek, place_on, rounding, from_low, goes_up, chosen, is_tiny, concluded, beyond, beside_whole, is_odd}
@@ -36,12 +37,12 @@ orders_middle Over L r half b n p e t d = cmp_lt b n (omega (arith, t.1))
 -- ---- a held number between powers
 
 module _ (whole e n : ℕ) (more : Bool) (h : Held whole e more n) where
-  pub held_below : n < 2 ^ (e + size whole)
+  held_below : n < 2 ^ (e + size whole)
   held_below =
       let a : 2 ^ (e + size whole) ≡ 2 ^ size whole * 2 ^ e = ap (λ (x : ℕ). 2 ^ x) (add_comm e (size whole)) ∙ pow-add 2 (size whole) e in
       omega (arith, a, h.parts, h.small, rw suc-mul at (mul-le-mul_right (2 ^ e) (size-lt whole)))
 
-  pub held_full : 0 < whole → 2 ^ (e + size whole) ≤ 2 * n
+  held_full : 0 < whole → 2 ^ (e + size whole) ≤ 2 * n
   held_full p =
       let a : 2 ^ (e + size whole) ≡ 2 ^ size whole * 2 ^ e = ap (λ (x : ℕ). 2 ^ x) (add_comm e (size whole)) ∙ pow-add 2 (size whole) e in
       let c : 2 ^ size whole * 2 ^ e ≤ 2 * whole * 2 ^ e = mul-le-mul_right (2 ^ e) (size_full whole p) in
@@ -74,6 +75,13 @@ module _ (whole e n : ℕ) (more : Bool) (h : Held whole e more n) where
       let m : 2 ^ suc (e + size whole) ≤ 2 ^ g = pow_mono b in
       let t : 2 * n < 2 ^ g = omega (arith, held_below, m, two-pow-succ (e + size whole)) in
       record { rest = n; parts = sym (ap (λ (x : ℕ). x + n) (zero-mul (2 ^ g)) ∙ zero-add n); small = omega arith; told = (omega (arith, held_full some, pow_pos (e + size whole)), t) }
+
+-- a value other than zero beside the power that its `top` names
+pub top_full : (x : Nonzero) (n : ℕ) → Holds x.exact n → 2 ^ x.top ≤ 2 * n
+top_full x n h = subst (λ (t : ℕ). 2 ^ t ≤ 2 * n) (sym x.topped) (held_full x.exact.whole x.exact.exponent n x.exact.more h x.some)
+
+pub top_below : (x : Nonzero) (n : ℕ) → Holds x.exact n → n < 2 ^ x.top
+top_below x n h = subst (λ (t : ℕ). n < 2 ^ t) (sym x.topped) (held_below x.exact.whole x.exact.exponent n x.exact.more h)
 
 pub place_few : (whole e g : ℕ) → e + size whole ≤ g + 24 → e < g → whole / 2 ^ (g - e) < 2 ^ 24
 place_few whole e g l m =

@@ -9,6 +9,7 @@ ghost use Rattle.registers.specs.Sides.{Sided, Splits, lower_of, middle_of, one}
 
 use crate::exact::Exact;
 use crate::mode::Way;
+use std::cmp::Ordering;
 
 /// Where a number lies between two neighbours.
 #[derive(Clone, Copy, PartialEq, Eq)]
@@ -51,16 +52,13 @@ fn side_of(rest: u128, half: u128, more: bool) -> Side
     requires { 0 < half }
     ensures { Sided result (2 * rest + one more) (4 * half) }
 {
-    if rest > half {
-        return Side::Over;
+    match rest.cmp(&half) {
+        Ordering::Greater => Side::Over,
+        Ordering::Equal if more => Side::Over,
+        Ordering::Equal => Side::Half,
+        Ordering::Less if rest > 0 || more => Side::Under,
+        Ordering::Less => Side::On,
     }
-    if rest == half {
-        return if more { Side::Over } else { Side::Half };
-    }
-    if rest > 0 || more {
-        return Side::Under;
-    }
-    Side::On
 }
 
 impl Exact {
@@ -99,10 +97,6 @@ impl Part {
         requires { self.kept < 2 ^ 127 }
         ensures { result ≡ self.kept + one (goes_up NearestWay (lower_of self.side) (middle_of self.side) (is_odd self.kept)) }
     {
-        if goes_up(Way::Nearest, self.side, self.kept % 2 == 1) {
-            self.kept + 1
-        } else {
-            self.kept
-        }
+        self.kept + u128::from(goes_up(Way::Nearest, self.side, self.kept % 2 == 1))
     }
 }

@@ -6,6 +6,7 @@ ghost use Rattle.std.specs.Float.Ieee.{size};
 use crate::cut::length;
 
 /// One of the two terms of a sum: `± whole · 2^exponent` squared units.
+// Beside `Coarse`, which has the same fields: the bounds are what each is for, and one type for both would know less.
 #[derive(Clone, Copy)]
 pub(crate) struct Term {
     pub(crate) negative: bool,
@@ -15,6 +16,7 @@ pub(crate) struct Term {
 }
 
 /// A signed magnitude of `whole` units of `2^exponent` and, where `more` says so, a part of one besides.
+// `more` is no Option: no rounding asks how great the part is, so no value stands beside it.
 #[derive(Clone, Copy)]
 pub(crate) struct Exact {
     pub(crate) negative: bool,
@@ -34,6 +36,7 @@ pub(crate) struct Nonzero {
 }
 
 /// A value of few bits: `± whole · 2^exponent` squared units.
+// Beside `Term`, which has the same fields: see there.
 #[derive(Clone, Copy)]
 pub(crate) struct Coarse {
     pub(crate) negative: bool,

@@ -53,7 +53,7 @@ pub(crate) fn normal(n: u128, long: u32) -> u32
 fn in_range(top: u32) -> bool
     ensures { result ≡ (nat_le (30 + unit) top && nat_le top (30 + span + unit)) }
 {
-    30 + UNIT <= top && top <= 30 + SPAN + UNIT
+    (30 + UNIT..=30 + SPAN + UNIT).contains(&top)
 }
 
 impl Coarse {

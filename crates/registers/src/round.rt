@@ -42,13 +42,8 @@ impl FusedSum {
         ensures right { RightRounding }
         ensures same_side { SameSideSameRounding }
     {
-        let exact = self.exact();
-        let magnitude = Exact {
-            negative,
-            whole: exact.whole,
-            exponent: exact.exponent,
-            more: exact.more,
-        };
+        let mut magnitude = self.exact();
+        magnitude.negative = negative;
         magnitude.round(mode)
     }
 }

@@ -20,6 +20,7 @@ impl FusedSum {
 
     /// The sum formed exactly and rounded once, to nearest with ties to even, to `width` significant bits.
     /// Refused where the width is neither 24 nor 30, and else where the rounded value's exponent is out of range.
+    // The width is a number, and no enum: a width that no step has is refused, and a narrower type would ask more of callers.
     #[tactic(auto, using(crate::proofs::Lawful::nearest_laws))]
     pub fn step(self, width: u32) -> Result<Register, Refusal>
         ensures answer { answered result ≡ fused width self.choice (value self.r) (value self.p) (value self.q) }

@@ -18,6 +18,7 @@ use crate::register::{Choice, Register};
 const NEAR: u32 = 64;
 
 /// A signed whole number.
+// Beside `Term`: it has a greater bound and no exponent, since two such numbers are added at one exponent.
 #[derive(Clone, Copy)]
 struct Signed {
     negative: bool,
@@ -89,7 +90,7 @@ fn folded(high: Term, unlike: bool) -> Exact
     let sixteenths = raised(high.whole, 4);
     Exact {
         negative: high.negative,
-        whole: if unlike { sixteenths - 1 } else { sixteenths },
+        whole: sixteenths - u128::from(unlike),
         exponent: high.exponent - 4,
         more: true,
     }
@@ -143,7 +144,7 @@ fn term_of(r: Register) -> Term
         },
         Register::Nonzero(x) => Term {
             negative: x.negative,
-            whole: x.significand as u128,
+            whole: u128::from(x.significand),
             exponent: x.exponent,
         },
     }

@@ -5,7 +5,7 @@ use registers::{Datum, Number, Pattern, Register};
 /// The register number of a pattern; zero where that is not finite.
 pub(crate) fn register(bits: u32) -> Register {
     match Pattern::from_bits(bits).decode() {
-        Datum::Finite(x) => Register::Nonzero(Number::from(x)),
+        Datum::Finite(x) => Register::from(x),
         _ => Register::Zero,
     }
 }

@@ -12,7 +12,7 @@ fn normal_form(negative: bool, significand: u32, exponent: u32) -> Finite
     requires { (0 < significand) × ((significand < 2 ^ 24) × (exponent ≤ 253)) }
     ensures { finite_meaning result ≡ finite negative (significand * 2 ^ exponent) }
 {
-    let short = 24 - length(significand as u128);
+    let short = 24 - length(u128::from(significand));
     let shift = short.min(exponent);
     Finite {
         negative,
@@ -28,7 +28,7 @@ impl Finite {
     pub fn new(negative: bool, significand: u32, exponent: u32) -> Option<Finite>
         ensures { MatchOption result (Writable significand exponent → ⊥) (λ x. finite_meaning x ≡ finite negative (significand * 2 ^ exponent)) }
     {
-        if significand == 0 || significand >= 0x100_0000 || exponent > 253 {
+        if !(1..0x100_0000).contains(&significand) || exponent > 253 {
             return None;
         }
         Some(normal_form(negative, significand, exponent))

@@ -3,13 +3,13 @@
 ghost use Rattle.std.specs.Prelude.{◌≡◌, ◌-◌, ◌*◌, ◌^◌, ◌<◌, ◌≤◌, MatchOption};
 ghost use Rattle.registers.specs.Fused.{number as number_of};
 ghost use Rattle.registers.specs.Range.{bias};
-ghost use Rattle.registers.specs.Values.{Buildable, Built, exponent_of, finite_value, number_value};
+ghost use Rattle.registers.specs.Values.{Buildable, Built, exponent_of, finite_value, number_value, value};
 
 use crate::cut::length;
 use crate::fit::normal;
 use crate::limits::{BIAS, GREATEST_EXPONENT, LEAST_EXPONENT, UNIT};
 use crate::pattern::Finite;
-use crate::register::{Number, Refusal};
+use crate::register::{Number, Refusal, Register};
 
 /// What makes the stored exponent of a finite binary32 number out of its exponent and the length of its significand.
 const BINARY32_SHIFT: u32 = UNIT - 149 - 30;
@@ -19,10 +19,10 @@ impl Number {
     pub fn new(negative: bool, exponent: i32, significand: u32) -> Option<Number>
         ensures { MatchOption result (Buildable exponent significand → ⊥) (λ n. Built negative exponent significand n) }
     {
-        if exponent < LEAST_EXPONENT || exponent > GREATEST_EXPONENT {
+        if !(LEAST_EXPONENT..=GREATEST_EXPONENT).contains(&exponent) {
             return None;
         }
-        if significand < 0x2000_0000 || significand >= 0x4000_0000 {
+        if !(0x2000_0000..0x4000_0000).contains(&significand) {
             return None;
         }
         Some(Number {
@@ -60,12 +60,21 @@ impl From<Finite> for Number {
 
     #[tactic(auto, using(crate::proofs::Scaling::finite_size))]
     fn from(x: Finite) -> Number {
-        let long = length(x.significand as u128);
+        let long = length(u128::from(x.significand));
         Number {
             negative: x.negative,
             exponent: x.exponent + long + BINARY32_SHIFT,
-            significand: normal(x.significand as u128, long),
+            significand: normal(u128::from(x.significand), long),
         }
+    }
+}
+
+/// A finite binary32 number, exactly.
+impl From<Finite> for Register {
+    ghost from_gives = { λ x r. value r ≡ finite_value x };
+
+    fn from(x: Finite) -> Register {
+        Register::Nonzero(Number::from(x))
     }
 }
 
