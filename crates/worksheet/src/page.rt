@@ -51,8 +51,6 @@ pub fn refinement_page(
 struct Filled<'a> {
     sheet: &'a Sheet,
     names: &'a [&'a str],
-    /// The closing value, where its lines are there.
-    sum: Option<FusedSum>,
     closing: Closing,
     negative: bool,
 }
@@ -67,22 +65,12 @@ impl Filled<'_> {
         for (name, x) in self.names.iter().zip(self.sheet.lines()) {
             write_line(text, name, *x)?;
         }
-        match self.sum.and_then(|sum| sum.step(30).ok()) {
-            Some(x) => write_line(text, "closing", x)?,
-            None => writeln!(text, "closing")?,
+        match self.closing.sum().step(30) {
+            Ok(x) => write_line(text, "closing", x)?,
+            Err(_) => writeln!(text, "closing")?,
         }
         writeln!(text)?;
         write_modes(text, |mode| Some(self.closing.round(self.negative, mode)))
-    }
-}
-
-/// The closing value `r + p·q` of three lines.
-fn closing_sum(r: Register, p: Register, q: Register) -> FusedSum {
-    FusedSum {
-        r,
-        choice: Choice::Plus,
-        p,
-        q,
     }
 }
 
@@ -98,10 +86,6 @@ pub fn quotient_page(
     let filled = Filled {
         sheet: &sheet,
         names: &["y0", "e0", "e1", "y1", "q1", "r1"],
-        sum: match sheet.lines() {
-            [.., y1, q1, r1] => Some(closing_sum(*q1, *r1, *y1)),
-            _ => None,
-        },
         closing,
         negative: a.is_negative() != b.is_negative(),
     };
@@ -123,10 +107,6 @@ pub fn root_page(heap: Global, source: Delivered, a: Finite) -> Result<String, A
         names: &[
             "y0", "S0", "H0", "d0", "H1", "S1", "d1", "e1", "S2", "H2", "e2",
         ],
-        sum: match sheet.lines() {
-            [.., s2, h2, e2] => Some(closing_sum(*s2, *e2, *h2)),
-            _ => None,
-        },
         closing,
         negative: false,
     };
