@@ -1,5 +1,5 @@
 -- The exact values of the calls on finite operands.
-use Rattle.std.specs.Prelude.{ℕ, ◌*◌, ◌^◌, Bool, true, false, cond, not, ◌==◌}
+use Rattle.std.specs.Prelude.{◌≡◌, ℕ, ◌*◌, ◌^◌, Bool, true, false, None, cond, not, ◌==◌}
 use Prim.Native.Nat.{compare, Ordering}
 use Rattle.std.specs.Bool.{beq}
 use Rattle.registers.specs.declared.pattern.Pattern.{Pattern}
@@ -9,7 +9,7 @@ use Rattle.registers.specs.declared.mode.Rounded.{Rounded}
 use Rattle.registers.specs.Sums.{sum_size, sum_sign}
 use Rattle.bench.specs.Kinds.{is_negative, signs_differ, units}
 use Rattle.bench.specs.Remainders as rest
-use Rattle.bench.specs.Tables.{zero_of}
+use Rattle.bench.specs.Tables.{remainder_table, zero_of}
 
 -- a value of n units of 2 ^ -324, known by comparison
 abbrev pub beside_exact : ℕ → ℕ → Ordering
@@ -50,3 +50,7 @@ remainder_units x y = rest.remainder_size (units x) (units y)
 
 abbrev pub remainder_sign : Pattern → Pattern → Bool
 remainder_sign x y = cond (rest.remainder_turned (units x) (units y)) (not (is_negative x)) (is_negative x)
+
+-- where no row of the table decides, p is the remainder of x by y exactly
+abbrev pub ExactRemainder : Pattern → Pattern → Pattern → Type 0
+ExactRemainder x y p = None ≡ remainder_table x y → (units p ≡ remainder_units x y) × (is_negative p ≡ remainder_sign x y)

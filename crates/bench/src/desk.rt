@@ -1,13 +1,12 @@
 //! What a call works on, beside the mode that stands.
 
-ghost use Rattle.std.specs.Prelude.{◌≡◌, [], None as NoneCase};
+ghost use Rattle.std.specs.Prelude.{◌≡◌, []};
 ghost use Rattle.sheets.specs.Written.{values, written};
 ghost use Rattle.bench.specs.Calls.{divide_answer, fuse_answer, remainder_answer, root_answer};
 ghost use Rattle.bench.specs.Desks.{RaisesThere, lowered};
-ghost use Rattle.bench.specs.Kinds.{is_negative, units};
 ghost use Rattle.bench.specs.Remainders.{IsNearestQuotient};
-ghost use Rattle.bench.specs.Tables.{answered, remainder_table};
-ghost use Rattle.bench.specs.Values.{remainder_sign, remainder_units};
+ghost use Rattle.bench.specs.Tables.{answered};
+ghost use Rattle.bench.specs.Values.{ExactRemainder};
 ghost use Rattle.bench.specs.Worksheets.{DivideLeaves, RootLeaves};
 
 use crate::answer::{Answer, Special};
@@ -28,6 +27,8 @@ pub(crate) struct Desk<S: Source> {
     pub(crate) source: S,
 }
 
+// Operands one by one, as the bench's calls have them: a struct for each call's operands would be made once and taken apart once.
+// That a sheet is empty is written out as the sheet's own contracts write it: a word for it would be no plainer.
 impl<S: Source> Desk<S> {
     /// Takes all flags down.
     pub(crate) fn clear(&mut self)
@@ -83,7 +84,7 @@ impl<S: Source> Desk<S> {
         ensures answer { (mode : Mode) → result ≡ (remainder_answer mode x y).pattern }
         ensures after { (mode : Mode) → RaisesThere (remainder_answer mode x y).flags self.old self.new }
         ensures sheet { written self.new.sheet ≡ [] }
-        ensures exact { NoneCase ≡ remainder_table x y → (units result ≡ remainder_units x y) × (is_negative result ≡ remainder_sign x y) }
+        ensures exact { ExactRemainder x y result }
         ensures nearest { IsNearestQuotient }
     {
         self.sheet.clear();

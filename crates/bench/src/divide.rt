@@ -21,6 +21,7 @@ use registers::{Finite, Mode, Pattern, Rounded};
 use sheets::fill_quotient;
 use sources::Source;
 
+// Operands one by one: a struct of them would be made once and taken apart once.
 impl<S: Source> Desk<S> {
     /// The quotient of numbers, rounded in a mode.
     fn divide_exact(&mut self, mode: Mode, a: Finite, b: Finite) -> Rounded

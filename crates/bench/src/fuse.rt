@@ -19,6 +19,7 @@ fn zero_sign(mode: Mode, s: bool, t: bool) -> bool
     if s == t { s } else { mode == Mode::Down }
 }
 
+// Operands one by one, here and below: a struct of them would be made once and taken apart once.
 /// The exact sum of operands, rounded once.
 fn fuse_exact(mode: Mode, p: Operand, q: Operand, r: Operand) -> Rounded
     ensures { result ≡ rounded mode (fuse_sign mode p.pattern q.pattern r.pattern) (beside_exact (fuse_size p.pattern q.pattern r.pattern * 2 ^ 26)) }

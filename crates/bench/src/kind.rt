@@ -7,6 +7,8 @@ ghost use Rattle.bench.specs.Tables.{infinity_of, zero_of};
 use registers::pattern::INFINITY;
 use registers::{Datum, Pattern};
 
+// By its bits, and not by its datum: the tables name their tests in this order, and a match on two or three data would be no plainer.
+
 /// The pattern without its sign.
 pub(crate) fn unsigned(p: Pattern) -> u32
     ensures { result ≡ unsigned_of p }
@@ -69,6 +71,8 @@ pub(crate) fn signs_differ(p: Pattern, q: Pattern) -> bool
 {
     is_negative(p) != is_negative(q)
 }
+
+// Two functions of three lines, which differ in the variant: one with the variant handed to it would be no plainer.
 
 /// The infinity of a sign.
 pub(crate) fn infinity(negative: bool) -> Pattern

@@ -1,6 +1,6 @@
 //! The remainder by the nearest quotient.
 
-ghost use Rattle.std.specs.Prelude.{◌≡◌, ℕ, ◌*◌, ◌/◌, ◌%◌, ◌^◌, ◌<◌, ◌≤◌, Bool, not, if◌then◌else◌, None as NoneCase, nat_eq, nat_lt};
+ghost use Rattle.std.specs.Prelude.{◌≡◌, ℕ, ◌*◌, ◌/◌, ◌%◌, ◌^◌, ◌<◌, ◌≤◌, Bool, not, if◌then◌else◌, nat_eq, nat_lt};
 ghost use Rattle.registers.specs.Binary32.{is_odd};
 ghost use Rattle.registers.specs.Coding.{denoted, finite};
 ghost use Rattle.registers.specs.Modes.{rounded};
@@ -9,7 +9,7 @@ ghost use Rattle.bench.specs.Kinds.{is_negative, units, unsigned};
 ghost use Rattle.bench.specs.Remainders.{IsNearestQuotient, remainder_size, remainder_turned};
 ghost use Rattle.bench.specs.Tables.{given_out, remainder_table};
 ghost use Rattle.bench.specs.Unless.{unless};
-ghost use Rattle.bench.specs.Values.{beside_exact, remainder_sign, remainder_units};
+ghost use Rattle.bench.specs.Values.{ExactRemainder, beside_exact, remainder_sign, remainder_units};
 
 use crate::answer::{Special, exact};
 use crate::kind::is_negative;
@@ -60,6 +60,7 @@ fn divide_doubling(n: u32, turns: u32, m: u32) -> Left
 {
     let mut rest = n % m;
     let mut odd = n / m % 2 == 1;
+    // Two values are carried from turn to turn: a fold over a pair would be no plainer.
     for turn in 0..turns {
         let twice = 2 * rest;
         odd = twice >= m;
@@ -142,6 +143,7 @@ fn datum(negative: bool, size: Scaled) -> Datum
     }
 }
 
+// Two operands, one by one: a struct of them would be made once and taken apart once.
 /// The remainder of operands, exactly.
 fn remainder_exact(x: Operand, y: Operand) -> Datum
     requires { 0 < unsigned y.pattern }
@@ -162,7 +164,7 @@ fn exactly(x: Datum) -> Rounded
 /// The remainder of `x` by `y`, which is the same in every mode, or what its table makes of special operands.
 pub(crate) fn remainder(x: Pattern, y: Pattern) -> Result<Rounded, Special>
     ensures value { (mode : Mode) → result ≡ unless (remainder_table x y) (rounded mode (remainder_sign x y) (beside_exact (remainder_units x y * 2 ^ 175))) }
-    ensures exact { NoneCase ≡ remainder_table x y → (units (given_out result) ≡ remainder_units x y) × (is_negative (given_out result) ≡ remainder_sign x y) }
+    ensures exact { ExactRemainder x y (given_out result) }
     ensures nearest { IsNearestQuotient }
 {
     remainder_table(x, y)?;

@@ -10,6 +10,7 @@ use crate::kind::{
 };
 use registers::Pattern;
 
+// Operands one by one, in every table: a struct for each call's operands would be made once and taken apart once.
 /// The table of `p·q + r`.
 pub(crate) fn fuse_table(p: Pattern, q: Pattern, r: Pattern) -> Result<(), Special>
     ensures { result ≡ unless (fuse_table p q r) tt }

@@ -58,6 +58,7 @@ impl<S: Source> Desk<S> {
     }
 }
 
+// Operands one by one, and the empty sheet written out, for the reasons that stand at the other calls.
 impl<S: Source> Bench<S> {
     /// The distance of a tab that lies `dx` and `dy` micrometres from the datum: the root of `dx·dx + (dy·dy + 0)`, each step in nearest.
     /// The mode that stood stands again on every way out. Refused where a difference is beyond ±16,777,215.

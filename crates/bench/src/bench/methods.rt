@@ -1,16 +1,14 @@
 //! The calls and the questions.
 
-ghost use Rattle.std.specs.Prelude.{◌≡◌, [], length, None as NoneCase};
+ghost use Rattle.std.specs.Prelude.{◌≡◌, [], length};
 ghost use Rattle.registers.specs.Modes.{mode_of};
 ghost use Rattle.sheets.specs.Written.{last_of, line_at, values, written};
 ghost use Rattle.bench.specs.Benches.{Fresh, KeptIfRefused, Raises, SheetOnly, cleared, set_answer, standing_mode, with_mode};
 ghost use Rattle.bench.specs.Calls.{divide_answer, fuse_answer, remainder_answer, root_answer};
 ghost use Rattle.bench.specs.Counts.{count_answer};
-ghost use Rattle.bench.specs.Kinds.{is_negative, units};
 ghost use Rattle.bench.specs.Refused.{from_sheet};
 ghost use Rattle.bench.specs.Remainders.{IsNearestQuotient};
-ghost use Rattle.bench.specs.Tables.{remainder_table};
-ghost use Rattle.bench.specs.Values.{remainder_sign, remainder_units};
+ghost use Rattle.bench.specs.Values.{ExactRemainder};
 ghost use Rattle.bench.specs.Worksheets.{CountLeaves, DivideLeaves, RootLeaves};
 
 use crate::bench::{Bench, ModeRecord};
@@ -22,6 +20,8 @@ use registers::{Mode, Pattern, Register};
 use sheets::Sheet;
 use sources::Source;
 
+// Operands one by one: the calls' public signatures have them so.
+// That a sheet is empty is written out as the sheet's own contracts write it: a word for it would be no plainer.
 impl<S: Source> Bench<S> {
     /// A bench over a source: mode 0, no flags and an empty sheet.
     pub fn new(source: S) -> Bench<S>
@@ -123,7 +123,7 @@ impl<S: Source> Bench<S> {
         ensures answer { result ≡ (remainder_answer (standing_mode self.old) x y).pattern }
         ensures after { Raises (remainder_answer (standing_mode self.old) x y).flags self.old self.new }
         ensures sheet { written self.new.desk.sheet ≡ [] }
-        ensures exact { NoneCase ≡ remainder_table x y → (units result ≡ remainder_units x y) × (is_negative result ≡ remainder_sign x y) }
+        ensures exact { ExactRemainder x y result }
         ensures nearest { IsNearestQuotient }
     {
         self.desk.remainder(x, y)
