@@ -2,14 +2,15 @@
 
 use bench::{Bench, Flags, Refusal};
 use registers::Pattern;
-use sources::Delivered;
+use sources::{Delivered, LineSource, Source, TableSource};
 use std::process::Abort;
 use std::test::Fail;
 
+// The two sources by the type that holds either.
 const SOURCES: [Delivered; 2] = [Delivered::Table, Delivered::Line];
 
 // A fresh bench in a mode.
-fn bench_in(source: Delivered, mode: u32) -> Bench<Delivered> {
+fn bench_in<S: Source + Drop>(source: S, mode: u32) -> Bench<S> {
     let mut bench = Bench::new(source);
     let _ = bench.set_mode(mode);
     bench
@@ -49,34 +50,49 @@ const ROOTS: [(u32, [u32; 4]); 3] = [
     ),
 ];
 
-// A call in the modes 0 to 3, over both sources.
-fn check_modes<F: Fn(&mut Bench<Delivered>) -> Pattern>(
+// A call in the modes 0 to 3, over a source.
+fn check_modes<S: Source + Copy + Drop, F: Fn(&mut Bench<S>) -> Pattern>(
     rt: &impl Abort,
+    source: S,
     call: F,
     expected: [u32; 4],
 )
     requires { F.IsAlwaysCallable call }
 {
-    for source in SOURCES {
-        for (mode, bits) in (0..4).zip(expected) {
-            assert_eq!(rt; call(&mut bench_in(source, mode)), Pattern::from_bits(bits));
-        }
+    for (mode, bits) in (0..4).zip(expected) {
+        assert_eq!(rt; call(&mut bench_in(source, mode)), Pattern::from_bits(bits));
+    }
+}
+
+fn check_quotients<S: Source + Copy + Drop>(rt: &impl Abort, source: S) {
+    for (a, b, expected) in QUOTIENTS {
+        let (a, b) = (Pattern::from_bits(a), Pattern::from_bits(b));
+        check_modes(rt, source, |bench| bench.divide(a, b), expected);
+    }
+}
+
+fn check_roots<S: Source + Copy + Drop>(rt: &impl Abort, source: S) {
+    for (a, expected) in ROOTS {
+        let a = Pattern::from_bits(a);
+        check_modes(rt, source, |bench| bench.root(a), expected);
     }
 }
 
 #[test]
 fn quotients_in_four_modes(rt: HostRuntime) {
-    for (a, b, expected) in QUOTIENTS {
-        let (a, b) = (Pattern::from_bits(a), Pattern::from_bits(b));
-        check_modes(&rt, |bench| bench.divide(a, b), expected);
+    check_quotients(&rt, TableSource);
+    check_quotients(&rt, LineSource);
+    for source in SOURCES {
+        check_quotients(&rt, source);
     }
 }
 
 #[test]
 fn roots_in_four_modes(rt: HostRuntime) {
-    for (a, expected) in ROOTS {
-        let a = Pattern::from_bits(a);
-        check_modes(&rt, |bench| bench.root(a), expected);
+    check_roots(&rt, TableSource);
+    check_roots(&rt, LineSource);
+    for source in SOURCES {
+        check_roots(&rt, source);
     }
 }
 
@@ -93,26 +109,32 @@ const COUNTS: [(i32, i32, Result<(i32, i32), u32>); 8] = [
 ];
 
 // A quotient and a remainder, or the number of a refusal.
-fn count(a: i32, b: i32) -> Result<(i32, i32), u32> {
-    let c = bench_in(Delivered::Table, 0).count(a, b)?;
+fn count<S: Source + Drop>(source: S, a: i32, b: i32) -> Result<(i32, i32), u32> {
+    let c = Bench::new(source).count(a, b)?;
     Ok((c.quotient, c.remainder))
 }
 
 #[test]
 fn counts_and_their_refusals(rt: HostRuntime) {
     for (a, b, expected) in COUNTS {
-        assert_eq!(rt; count(a, b), expected);
+        assert_eq!(rt; count(TableSource, a, b), expected);
+        assert_eq!(rt; count(Delivered::Table, a, b), expected);
     }
+}
+
+fn check_high_modes<S: Source + Drop>(rt: &impl Abort, source: S) {
+    let mut bench = Bench::new(source);
+    for n in [4, 5, u32::MAX] {
+        assert_eq!(rt; bench.set_mode(n), Err(Refusal::HighMode));
+    }
+    assert_eq!(rt; u32::from(bench.mode()), 0);
 }
 
 #[test]
 fn modes_above_three_are_refused(rt: HostRuntime) {
-    let mut bench = Bench::new(Delivered::Line);
-    for n in [4, 5, u32::MAX] {
-        assert_eq!(rt; bench.set_mode(n), Err(Refusal::HighMode));
-    }
+    check_high_modes(&rt, LineSource);
+    check_high_modes(&rt, Delivered::Line);
     assert_eq!(rt; u32::from(Refusal::HighMode), 1);
-    assert_eq!(rt; u32::from(bench.mode()), 0);
 }
 
 #[test]

@@ -2,7 +2,8 @@
 
 use bench::Bench;
 use registers::{Number, Pattern, Register};
-use sources::Delivered;
+use sources::{Delivered, Source, TableSource};
+use std::process::Abort;
 
 // The lines of 1 by 1 over the table, each of a positive number by its exponent and its significand.
 const LINES: [(usize, i32, u32); 5] = [
@@ -14,13 +15,12 @@ const LINES: [(usize, i32, u32); 5] = [
 ];
 
 // A line, or the number of a refusal.
-fn line(bench: &Bench<Delivered>, n: usize) -> Result<Register, u32> {
+fn line<S: Source>(bench: &Bench<S>, n: usize) -> Result<Register, u32> {
     Ok(bench.line(n)?)
 }
 
-#[test]
-fn one_by_one_over_the_table(rt: HostRuntime) {
-    let mut bench = Bench::new(Delivered::Table);
+fn check_one_by_one<S: Source + Drop>(rt: &impl Abort, source: S) {
+    let mut bench = Bench::new(source);
     let one = Pattern::from_bits(0x3F80_0000);
     assert_eq!(rt; bench.divide(one, one), one);
     for (n, exponent, significand) in LINES {
@@ -34,8 +34,13 @@ fn one_by_one_over_the_table(rt: HostRuntime) {
 }
 
 #[test]
-fn an_empty_sheet_has_no_last_line(rt: HostRuntime) {
-    let mut bench = Bench::new(Delivered::Table);
+fn one_by_one_over_the_table(rt: HostRuntime) {
+    check_one_by_one(&rt, TableSource);
+    check_one_by_one(&rt, Delivered::Table);
+}
+
+fn check_last<S: Source + Drop>(rt: &impl Abort, source: S) {
+    let mut bench = Bench::new(source);
     assert_eq!(rt; bench.last(), None);
     let _ = bench.root(Pattern::from_bits(0x4010_0000));
     assert_eq!(rt; bench.lines(), 11);
@@ -44,4 +49,10 @@ fn an_empty_sheet_has_no_last_line(rt: HostRuntime) {
     let _ = bench.fuse(one, one, one);
     assert_eq!(rt; bench.lines(), 0);
     assert_eq!(rt; bench.last(), None);
+}
+
+#[test]
+fn an_empty_sheet_has_no_last_line(rt: HostRuntime) {
+    check_last(&rt, TableSource);
+    check_last(&rt, Delivered::Table);
 }

@@ -6,6 +6,8 @@ mod calls;
 
 use registers::{Choice, Datum, FusedSum, Mode, Number, Pattern, Refusal, Register, Rounded};
 
+// Numbers for kinds and answers, and the parts of a number one by one: the C interface has no Option, Result, enum or struct of ours.
+
 /// In an answer: the value is zero.
 const ZERO: u64 = 1 << 62;
 
@@ -21,6 +23,8 @@ fn register(bits: u32) -> Option<Register> {
     }
 }
 
+// A number for a choice: C hands on no enum of ours.
+/// The choice of a number: minus where it is not 0.
 fn choice(minus: u32) -> Choice {
     if minus == 0 {
         Choice::Plus
@@ -31,14 +35,14 @@ fn choice(minus: u32) -> Choice {
 
 /// A rounded value: the pattern in the low 32 bits, then inexact, overflow, underflow.
 fn packed_rounded(z: Rounded) -> u64 {
-    z.pattern.bits() as u64
-        | (z.inexact as u64) << 32
-        | (z.overflow as u64) << 33
-        | (z.underflow as u64) << 34
+    u64::from(z.pattern.bits())
+        | u64::from(z.inexact) << 32
+        | u64::from(z.overflow) << 33
+        | u64::from(z.underflow) << 34
 }
 
 /// The rounded sum of patterns, or nothing where one is not finite or no mode has the number.
-fn rounded(r: u32, minus: u32, p: u32, q: u32, mode: u32) -> Option<u64> {
+fn rounded_sum(r: u32, minus: u32, p: u32, q: u32, mode: u32) -> Option<u64> {
     let sum = FusedSum {
         r: register(r)?,
         choice: choice(minus),
@@ -52,7 +56,7 @@ fn rounded(r: u32, minus: u32, p: u32, q: u32, mode: u32) -> Option<u64> {
 /// `r + p·q`, or `r - p·q` where `minus` is not 0, of finite patterns, rounded in a mode: the pattern in the low 32 bits, then inexact, overflow, underflow.
 #[unsafe(no_mangle)]
 pub extern "C" fn registers_round(r: u32, minus: u32, p: u32, q: u32, mode: u32) -> u64 {
-    rounded(r, minus, p, q, mode).unwrap_or(UNFIT)
+    rounded_sum(r, minus, p, q, mode).unwrap_or(UNFIT)
 }
 
 /// A register number by its parts: a significand of 0 is zero.
@@ -68,8 +72,8 @@ fn packed_number(x: Register) -> u64 {
     match x {
         Register::Zero => ZERO,
         Register::Nonzero(n) => {
-            let exponent = n.exponent() as i64 + 1_048_576;
-            n.significand() as u64 | (exponent as u64) << 32 | (n.is_negative() as u64) << 55
+            let exponent = i64::from(n.exponent()) + 1_048_576;
+            u64::from(n.significand()) | (exponent as u64) << 32 | u64::from(n.is_negative()) << 55
         }
     }
 }
@@ -78,12 +82,13 @@ fn packed_number(x: Register) -> u64 {
 fn packed(z: Result<Register, Refusal>) -> u64 {
     match z {
         Ok(x) => packed_number(x),
-        Err(e) => (u32::from(e) as u64) << 56,
+        Err(e) => u64::from(u32::from(e)) << 56,
     }
 }
 
+// An Option for each operand, as its parts came from C one by one.
 /// The packed step, or nothing where the parts of a number are out of range.
-fn stepped(
+fn step(
     r: Option<Register>,
     minus: u32,
     p: Option<Register>,
@@ -99,6 +104,7 @@ fn stepped(
     Some(packed(sum.step(width)))
 }
 
+// Eleven numbers, and no struct: C calls it so.
 /// The fused step on register numbers by their parts.
 #[unsafe(no_mangle)]
 pub extern "C" fn registers_step(
@@ -117,5 +123,5 @@ pub extern "C" fn registers_step(
     let r = number(r_negative, r_exponent, r_significand);
     let p = number(p_negative, p_exponent, p_significand);
     let q = number(q_negative, q_exponent, q_significand);
-    stepped(r, minus, p, q, width).unwrap_or(UNFIT)
+    step(r, minus, p, q, width).unwrap_or(UNFIT)
 }
