@@ -4,6 +4,7 @@ use native.Mathlib.Nat.{eq_of_mul-eq-mul_right}
 use Rattle.registers.specs.Range.{bias, bias_is, lowest, unit}
 use Rattle.registers.proofs.Granted.{below_of}
 use Rattle.registers.proofs.Spacing.{raise}
+use Rattle.sheets.proofs.Powers.{power_parts}
 
 -- S·2 ^ e units are m·2 ^ k units of 2 ^ -149
 module _ (S e m k : ℕ)
@@ -41,18 +42,18 @@ module _ (S e m k : ℕ)
         left : (S / 64) * 2 ^ (e - (lowest - 149)) * 2 ^ (bias - 172) ≡ S * 2 ^ e
         left =
             mul_assoc (S / 64) (2 ^ (e - (lowest - 149))) (2 ^ (bias - 172))
-            ∙ ap (λ t. (S / 64) * t) (sym (pow-add 2 (e - (lowest - 149)) (bias - 172)) ∙ ap (λ t. 2 ^ t) (sums bias_is) ∙ pow-add 2 6 e)
+            ∙ ap (λ t. (S / 64) * t) (sym (pow-add 2 (e - (lowest - 149)) (bias - 172)) ∙ power_parts (e - (lowest - 149) + (bias - 172)) 6 e (sums bias_is))
             ∙ omega (arith, ap (λ t. t * 2 ^ e) sixty_four)
 
         raised : bias ≡ unit → bias - 149 ≡ 23 + (bias - 172)
         raised h = omega arith
 
         right : m * 2 ^ k * 2 ^ (bias - 149) ≡ m * 2 ^ k * 2 ^ 23 * 2 ^ (bias - 172)
-        right = ap (λ t. m * 2 ^ k * t) (ap (λ t. 2 ^ t) (raised bias_is) ∙ pow-add 2 23 (bias - 172)) ∙ sym (mul_assoc (m * 2 ^ k) (2 ^ 23) (2 ^ (bias - 172)))
+        right = ap (λ t. m * 2 ^ k * t) (power_parts (bias - 149) 23 (bias - 172) (raised bias_is)) ∙ sym (mul_assoc (m * 2 ^ k) (2 ^ 23) (2 ^ (bias - 172)))
 
 -- the register number of 24 bits and an exponent
 widened_by : (B k h : ℕ) → bias - 172 ≡ 6 + h → B * 64 * 2 ^ (k + h) ≡ B * 2 ^ k * 2 ^ (bias - 172)
-widened_by B k h e = omega (arith, ap (λ t. B * 64 * t) (pow-add 2 k h), ap (λ t. B * 2 ^ k * t) (ap (λ t. 2 ^ t) e ∙ pow-add 2 6 h))
+widened_by B k h e = omega (arith, ap (λ t. B * 64 * t) (pow-add 2 k h), ap (λ t. B * 2 ^ k * t) (power_parts (bias - 172) 6 h e))
 
 pub widened : (B k : ℕ) → B * 64 * 2 ^ (k + (lowest - 149)) ≡ B * 2 ^ k * 2 ^ (bias - 172)
 widened B k = widened_by B k (lowest - 149) (omega (arith, bias_is))

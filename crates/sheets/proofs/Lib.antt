@@ -1,5 +1,6 @@
 pub mod Side
 pub mod Shape
+pub mod Powers
 pub mod Correction
 pub mod Inverse
 pub mod QuotientError

@@ -7,6 +7,7 @@ use Rattle.registers.specs.Values.{Value}
 use Rattle.registers.proofs.Granted.{below_of}
 use Rattle.sources.specs.Seeds.{IsRadicand, IsSignificand, ReciprocalSeed, RootSeed, plain}
 use Rattle.sheets.specs.Operands.{radicand_of}
+use Rattle.sheets.proofs.Powers.{power_parts}
 use Rattle.sheets.proofs.RootNear.{sq_le}
 use Rattle.sheets.proofs.Shape.{Shape}
 
@@ -19,13 +20,13 @@ pub record Decoded (n : ℕ) : Type 0 where
   pub is : significand * 2 ^ exponent ≡ n * 2 ^ 23
 
 raised : 2 ^ (bias - 149) ≡ 2 ^ 23 * 2 ^ (bias - 172)
-raised = ap (λ t. 2 ^ t) (split bias_is) ∙ pow-add 2 23 (bias - 172)
+raised = power_parts (bias - 149) 23 (bias - 172) (split bias_is)
   where
     split : bias ≡ unit → bias - 149 ≡ 23 + (bias - 172)
     split e = omega arith
 
 full : 2 ^ bias ≡ 2 ^ 172 * 2 ^ (bias - 172)
-full = ap (λ t. 2 ^ t) (split bias_is) ∙ pow-add 2 172 (bias - 172)
+full = power_parts bias 172 (bias - 172) (split bias_is)
   where
     split : bias ≡ unit → bias ≡ 172 + (bias - 172)
     split e = omega arith
@@ -115,13 +116,13 @@ root_close n T j z y0 c e f = (
 )
   where
     twofold : 2 ^ (2 * j) ≡ 2 ^ j * 2 ^ j
-    twofold = ap (λ t. 2 ^ t) (double j) ∙ pow-add 2 j j
+    twofold = power_parts (2 * j) j j (double j)
       where
         double : (j : ℕ) → 2 * j ≡ j + j
         double j = omega arith
 
     wide : 2 ^ bias ≡ 2 ^ 149 * 2 ^ (bias - 149)
-    wide = ap (λ t. 2 ^ t) (split bias_is) ∙ pow-add 2 149 (bias - 149)
+    wide = power_parts bias 149 (bias - 149) (split bias_is)
       where
         split : bias ≡ unit → bias ≡ 149 + (bias - 149)
         split h = omega arith
@@ -146,7 +147,7 @@ root_moderate T z v r c e = (omega (arith, ap (λ t. t.units) e, low), omega (ar
 
 -- a power of two
 pub power : (e i : ℕ) → i ≡ 29 + e → 0x20000000 * 2 ^ e ≡ 2 ^ i
-power e i h = sym (pow-add 2 29 e) ∙ ap (λ (x : ℕ). 2 ^ x) (sym h)
+power e i h = sym (power_parts i 29 e h)
 
 -- a number of moderate size has a moderate exponent, and can be brought to another
 module _ (S e : ℕ) (low : 2 ^ 29 ≤ S) (high : S < 2 ^ 30) (above : 2 ^ bias ≤ S * 2 ^ e * 2 ^ 150) (below : S * 2 ^ e ≤ 2 ^ bias * 2 ^ 150) where
@@ -159,7 +160,7 @@ module _ (S e : ℕ) (low : 2 ^ 29 ≤ S) (high : S < 2 ^ 30) (above : 2 ^ bias 
 pub moved : (S e up down : ℕ) → down ≤ e + up → S * 2 ^ (e + up - down) * 2 ^ down ≡ S * 2 ^ e * 2 ^ up
 moved S e up down h =
     mul_assoc S (2 ^ (e + up - down)) (2 ^ down)
-    ∙ ap (λ x. S * x) (sym (pow-add 2 (e + up - down) down) ∙ ap (λ x. 2 ^ x) sums ∙ pow-add 2 e up)
+    ∙ ap (λ x. S * x) (sym (pow-add 2 (e + up - down) down) ∙ power_parts (e + up - down + down) e up sums)
     ∙ sym (mul_assoc S (2 ^ e) (2 ^ up))
   where
     sums : e + up - down + down ≡ e + up

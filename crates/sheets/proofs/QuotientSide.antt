@@ -6,6 +6,7 @@ use Rattle.registers.specs.Laws.{Bits}
 use Rattle.registers.proofs.Spacing.{Rounded, order}
 use Rattle.sheets.proofs.Side.{Side, on_place}
 use Rattle.sheets.proofs.Correction.{Correction}
+use Rattle.sheets.proofs.Powers.{power_parts}
 use Rattle.sheets.proofs.QuotientPlaces.{hit, at_below, at_above, nothing, even_part}
 
 -- the place of the quotient's 25th bit
@@ -14,7 +15,7 @@ pub choose : (X A' α B' β : ℕ) → X ≡ A' * 2 ^ α → 2 ^ 23 ≤ A' → A
 choose X A' α B' β ha la ta lb tb room = elim (order B' A') [ inl h ↦ (α - (β + 24), A' * 2 ^ 24, omega (arith, h), omega arith, split 24 (omega arith)) | inr h ↦ (α - (β + 25), A' * 2 ^ 25, omega arith, omega (arith, h), split 25 (omega arith)) ]
   where
     split : (k : ℕ) → β + k ≤ α → X ≡ A' * 2 ^ k * (2 ^ β * 2 ^ (α - (β + k)))
-    split k h = omega (arith, ha, ap (λ x. A' * x) (ap (λ x. 2 ^ x) sum ∙ pow-add 2 (β + k) (α - (β + k))), ap (λ x. A' * (x * 2 ^ (α - (β + k)))) (pow-add 2 β k))
+    split k h = omega (arith, ha, ap (λ x. A' * x) (power_parts α (β + k) (α - (β + k)) sum), ap (λ x. A' * (x * 2 ^ (α - (β + k)))) (pow-add 2 β k))
       where
         sum : α ≡ β + k + (α - (β + k))
         sum = omega arith

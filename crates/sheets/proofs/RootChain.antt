@@ -17,6 +17,7 @@ use Rattle.sheets.specs.Operands.{half, held}
 use Rattle.sheets.specs.Roots.{Halved, RootFacts}
 use Rattle.sheets.proofs.Inverse.{grown_plus}
 use Rattle.sheets.proofs.Placing.{Decoded, least, most, units_bits, shape}
+use Rattle.sheets.proofs.Powers.{power_parts}
 use Rattle.sheets.proofs.RootEnd as End
 use Rattle.sheets.proofs.RootPair as Pair
 use Rattle.sheets.proofs.Scales.{root_beside}
@@ -37,7 +38,7 @@ pos : zero < 2 ^ bias
 pos = pow_pos bias
 
 halves : 2 ^ bias ≡ 2 * 2 ^ (bias - 1)
-halves = ap (λ t. 2 ^ t) (split bias_is) ∙ pow-add 2 1 (bias - 1)
+halves = power_parts bias 1 (bias - 1) (split bias_is)
   where
     split : bias ≡ unit → bias ≡ 1 + (bias - 1)
     split e = omega arith

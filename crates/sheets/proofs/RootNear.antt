@@ -1,9 +1,10 @@
 -- The rounded root s2, counted at the place of the root's 25th bit, is an even number, and its square is within 9/4 of itself of a.
-use Rattle.std.proofs.Common.{◌≡◌, ℕ, zero, suc, ◌+◌, ◌-◌, ◌*◌, ◌/◌, ◌%◌, ◌^◌, ◌<◌, ◌≤◌, sym, refl, ap, ◌∙◌, subst, inl, inr, mul-le-mul_right, mul-le-mul, lt_of_mul-lt-mul_right, mul-pos, div-mul-le_self, le_of_mul-le-mul_right, arith, pow_pos, pow_mono, pow-add}
+use Rattle.std.proofs.Common.{◌≡◌, ℕ, zero, suc, ◌+◌, ◌-◌, ◌*◌, ◌/◌, ◌%◌, ◌^◌, ◌<◌, ◌≤◌, sym, refl, ap, subst, inl, inr, mul-le-mul_right, mul-le-mul, lt_of_mul-lt-mul_right, mul-pos, div-mul-le_self, le_of_mul-le-mul_right, arith, pow_pos, pow_mono, pow-add}
 use native.Mathlib.Nat.{lt-div-mul-add, pow-succ'}
 use Rattle.registers.proofs.Near.{Near}
 use Rattle.registers.specs.Laws.{Bits}
 use Rattle.registers.proofs.Spacing.{Rounded, spacing, order, raise}
+use Rattle.sheets.proofs.Powers.{power_parts}
 
 pub sq_le : (x y : ℕ) → x * x ≤ y * y → x ≤ y
 sq_le x y h = elim (order x y) [ inl k ↦ k | inr k ↦ absurd (omega (arith, mul-le-mul k k)) ]
@@ -98,7 +99,7 @@ choose_root X A' α ha la ta room = elim (order ((α - 25) % 2) zero) [
 ]
   where
     split : (i s : ℕ) → i + (s + s) ≡ α → X ≡ A' * 2 ^ i * (2 ^ s * 2 ^ s)
-    split i s e = omega (arith, ha, ap (λ x. A' * x) (ap (λ x. 2 ^ x) (sym e) ∙ pow-add 2 i (s + s)), ap (λ x. A' * (2 ^ i * x)) (pow-add 2 s s))
+    split i s e = omega (arith, ha, ap (λ x. A' * x) (power_parts α i (s + s) (sym e)), ap (λ x. A' * (2 ^ i * x)) (pow-add 2 s s))
 
 -- the rounded root of a sum C whose square is a, counted at the place of the root's 25th bit
 pub near_place : (w W A C S s a : ℕ) → W ≡ 2 ^ w → A * W ≡ a * (2 ^ s * 2 ^ s) → 2 ^ 48 ≤ a → a < 2 ^ 50 → Near (2 ^ 30) (A * W * (W * W)) (C * C) → Rounded 24 C (S * W) → NearRoot a (2 ^ s * W) (S * W)

@@ -1,5 +1,5 @@
 -- From register units to the units in which an exact value is told: a Side for every number of at most 25 bits is the same side there, and so the same rounding.
-use Rattle.std.proofs.Common.{◌≡◌, ℕ, zero, ◌+◌, ◌-◌, ◌*◌, ◌^◌, ◌<◌, sym, ap, ◌∙◌, mul_assoc, mul-lt-mul_of_pos_right, mul-pos, arith, pow_pos, pow-add}
+use Rattle.std.proofs.Common.{◌≡◌, ℕ, zero, ◌+◌, ◌-◌, ◌*◌, ◌^◌, ◌<◌, sym, ap, ◌∙◌, mul_assoc, mul-lt-mul_of_pos_right, mul-pos, arith, pow_pos}
 use Prim.Native.Nat.{compare}
 use Rattle.registers.specs.Binary32.{beside_whole}
 use Rattle.registers.specs.Laws.{Bits}
@@ -7,6 +7,7 @@ use Rattle.registers.specs.Range.{bias, bias_is, unit}
 use Rattle.registers.specs.Rightly.{SameSideSameRounding}
 use Rattle.registers.proofs.Standing.{same_side}
 use Rattle.sheets.specs.Beside.{SameRounding, SameSide, beside_quotient, beside_root}
+use Rattle.sheets.proofs.Powers.{power_parts}
 use Rattle.sheets.proofs.Side.{Side, compared}
 use Rattle.sheets.proofs.Sizes.{shifted_bits}
 
@@ -24,19 +25,19 @@ unscaled x y X Y u m n some e f s = record {
 
 -- the powers that the units differ by
 fine : 2 ^ bias ≡ 2 ^ 324 * 2 ^ (bias - 324)
-fine = ap (λ t. 2 ^ t) (split bias_is) ∙ pow-add 2 324 (bias - 324)
+fine = power_parts bias 324 (bias - 324) (split bias_is)
   where
     split : bias ≡ unit → bias ≡ 324 + (bias - 324)
     split e = omega arith
 
 squares : 2 ^ (2 * bias - 324) ≡ 2 ^ (bias - 324) * 2 ^ bias
-squares = ap (λ t. 2 ^ t) (split bias_is) ∙ pow-add 2 (bias - 324) bias
+squares = power_parts (2 * bias - 324) (bias - 324) bias (split bias_is)
   where
     split : bias ≡ unit → 2 * bias - 324 ≡ bias - 324 + bias
     split e = omega arith
 
 coarse : 2 ^ (bias - 149) ≡ 2 ^ 175 * 2 ^ (bias - 324)
-coarse = ap (λ t. 2 ^ t) (split bias_is) ∙ pow-add 2 175 (bias - 324)
+coarse = power_parts (bias - 149) 175 (bias - 324) (split bias_is)
   where
     split : bias ≡ unit → bias - 149 ≡ 175 + (bias - 324)
     split e = omega arith

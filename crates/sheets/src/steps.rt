@@ -28,6 +28,7 @@ pub(crate) fn product(p: Register, q: Register) -> FusedSum
 }
 
 /// `r - p·q`: what a value leaves over a product.
+// It and `corrected` differ in the sign alone: two names, so that each step of a sheet reads as its formula.
 pub(crate) fn residual(r: Register, p: Register, q: Register) -> FusedSum
     ensures { result ≡ record { r = r; choice = Minus; p = p; q = q } }
 {

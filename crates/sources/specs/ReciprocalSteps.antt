@@ -1,5 +1,5 @@
 -- The steps of the reciprocal: none is refused, each round is as close as the analysis says, and so is the line's seed.
-use Rattle.std.specs.Prelude.{◌≡◌, ℕ, zero, ◌-◌, ◌*◌, ◌^◌, ◌<◌, ◌≤◌, Bool, true, false, not, Ok, refl}
+use Rattle.std.specs.Prelude.{◌≡◌, ℕ, zero, ◌-◌, ◌*◌, ◌^◌, ◌<◌, ◌≤◌, Bool, true, false, not, Ok, Result, refl}
 use Rattle.std.proofs.Common.{mul-le-mul_right, mul-le-mul_left, le_of_mul-le-mul_right, arith, sym, ◌∙◌, pow_pos}
 use Rattle.std.proofs.Math.Path.{ap, subst}
 use Rattle.std.specs.Bool.{beq}
@@ -8,6 +8,7 @@ use Rattle.registers.specs.Sums.{sum_size}
 use Rattle.registers.specs.Range.{bias, bias_is}
 use Rattle.registers.specs.Laws.{Bits}
 use Rattle.registers.specs.Lines.{Sum, FusedLine}
+use Rattle.registers.specs.Values.{Value}
 use Rattle.registers.proofs.Near.{Near}
 use Rattle.registers.proofs.Related.{rounded_of}
 use Rattle.sources.specs.Convergence.{Inverse, ReciprocalRound}
@@ -126,6 +127,10 @@ module _ (b : ℕ) (sig : IsSignificand b) where
 
   pub reciprocal_positive : Positive (reciprocal_line b)
   reciprocal_positive = subst Positive (sym line_is) (refl, convergence.some_y 16 (2 ^ bias) (fraction b 23) twice.Y' (pow_pos bias) (omega arith) (omega (arith, twice_close), omega (arith, twice_close)))
+
+  pub reciprocal_units : (o : Result Value ℕ) → o ≡ reciprocal_line b → units_of o ≡ line_reciprocal b
+  unfolding line_reciprocal
+  reciprocal_units o e = ap units_of e
 
   -- one round from any claim from 29 up
   refined : (K y : ℕ) → 29 ≤ K → ReciprocalSeed K b y → (y' : ℕ) × (reciprocal_round (plain (fraction b 23)) (plain y) ≡ Ok (plain y')) × ReciprocalSeed 400 b y'

@@ -1,5 +1,5 @@
 -- The steps of the root: none is refused, each round is as close as the analysis says, and so is the line's seed.
-use Rattle.std.specs.Prelude.{◌≡◌, ℕ, zero, ◌+◌, ◌-◌, ◌*◌, ◌/◌, ◌^◌, ◌<◌, ◌≤◌, Bool, true, false, not, Ok, refl}
+use Rattle.std.specs.Prelude.{◌≡◌, ℕ, zero, ◌+◌, ◌-◌, ◌*◌, ◌/◌, ◌^◌, ◌<◌, ◌≤◌, Bool, true, false, not, Ok, Result, refl}
 use Rattle.std.proofs.Common.{mul-le-mul, mul-le-mul_right, mul-le-mul_left, mul-pos, le_of_mul-le-mul_right, zero-mul, arith, sym, ◌∙◌, inl, inr, pow_pos, pow-add}
 use Rattle.std.proofs.Math.Path.{ap, subst}
 use Rattle.std.specs.Bool.{beq}
@@ -9,6 +9,7 @@ use Rattle.registers.specs.Sums.{sum_size}
 use Rattle.registers.specs.Range.{bias, bias_is}
 use Rattle.registers.specs.Laws.{Bits}
 use Rattle.registers.specs.Lines.{Sum, FusedLine}
+use Rattle.registers.specs.Values.{Value}
 use Rattle.registers.proofs.Near.{Near30}
 use Rattle.registers.proofs.Related.{rounded_of}
 use Rattle.registers.proofs.Signs.{line_of, upright, upright_sign}
@@ -228,6 +229,10 @@ module _ (t : ℕ) (rad : IsRadicand t) where
 
   pub root_positive : Positive (root_line t)
   root_positive = subst Positive (sym line_is) (refl, omega (arith, below (2 ^ bias) (fraction t 23) twice.Z' (pow_pos bias) hi twice_near, pow_pos bias))
+
+  pub root_units : (o : Result Value ℕ) → o ≡ root_line t → units_of o ≡ line_root t
+  unfolding line_root
+  root_units o e = ap units_of e
 
   -- one round from any claim from 29 up
   refined : (K z : ℕ) → 29 ≤ K → RootSeed K t z → (z' : ℕ) × (root_round (plain (fraction t 23)) (plain z) ≡ Ok (plain z')) × RootSeed 400 t z'

@@ -134,6 +134,14 @@ roots_are_close t s = go (root_entry (root_index t)) (2 ^ (bias - 11)) (root_bou
 pub held : (f : ℕ → ℕ) (xs : List ℕ) (i : ℕ) → xs ≡ map f (range_with_len 0 256) → i < 256 → slice_index xs i ≡ f i
 held f xs i e h = ap (λ (l : List ℕ). slice_index l i) e ∙ get_or-map-range_with_len f 0 256 i i 0 h (omega arith)
 
+pub reciprocal_held : (xs : List ℕ) (i : ℕ) → xs ≡ map reciprocal_rule (range_with_len 0 256) → i < 256 → slice_index xs i ≡ reciprocal_entry i
+unfolding reciprocal_entry
+reciprocal_held xs i e h = held reciprocal_rule xs i e h
+
+pub root_held : (xs : List ℕ) (i : ℕ) → xs ≡ map root_rule (range_with_len 0 256) → i < 256 → slice_index xs i ≡ root_entry i
+unfolding root_entry
+root_held xs i e h = held root_rule xs i e h
+
 -- what is told of an entry
 sized : (e m f l h p q : ℕ) → excess e m f l h p q ≡ 0 → (2 ^ 10 ≤ e) × (e < 2 ^ 11)
 unfolding excess

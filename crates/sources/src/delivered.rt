@@ -93,6 +93,10 @@ impl fmt::Display for Delivered {
 }
 
 impl fmt::Display for UnknownSource {
+    ghost use Rattle.std.specs.Prelude.{Some, codes};
+
+    ghost output = { λ _. Some (codes "no delivered source has this name") };
+
     fn fmt<W: fmt::Write>(&self, f: &mut fmt::Formatter<W>) -> fmt::Result {
         f.write_str("no delivered source has this name")
     }

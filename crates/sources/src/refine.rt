@@ -10,6 +10,7 @@ use registers::{Choice, FusedSum, Number, Refusal, Register};
 
 /// `r + p·q` or `r - p·q`, rounded to 30 bits.
 // Four parameters by place, and no literal of the sum at each call: a round reads as its formula so.
+// The program `worksheet` has one like it: neither calls the other, and no crate below both has a width of its own.
 #[tactic(auto, unfolding(crate::specs::Rounds::step))]
 pub(crate) fn step(
     r: Register,
@@ -41,6 +42,6 @@ pub(crate) fn given(answer: Result<Register, Refusal>) -> Number
 {
     match answer {
         Ok(Register::Nonzero(n)) => n,
-        _ => unreachable(),
+        _ => unreachable!(),
     }
 }

@@ -8,7 +8,7 @@ use crate::operand::{Radicand, Significand};
 use registers::Number;
 
 /// Two lists of seeds, one for each significand and one for each radicand, every entry of which is close.
-// Two questions by name, and no question as a parameter of the trait: what asks both of one source would write two bounds, and name each list through its bound, wherever it names the source.
+// Two questions by name, and no question as a parameter of the trait: the two lists would have one name then, and each clause would tell them apart by the number of a bound, or by the bound written out, where it says `reciprocals` and `roots` now.
 pub trait Source {
     /// The reciprocal seed for a significand, and the root seed for a radicand, in units.
     ghost reciprocals: { Self → ℕ → ℕ };

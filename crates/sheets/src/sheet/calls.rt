@@ -1,6 +1,6 @@
 //! Writing a sheet and asking it.
 
-ghost use Rattle.std.specs.Prelude.{◌≡◌, ◌<◌, ◌≤◌, [], ◌∷◌, ◌++◌, length};
+ghost use Rattle.std.specs.Prelude.{◌≡◌, ◌≤◌, [], length};
 ghost use Rattle.sheets.specs.Written.{last_of, line_at, written};
 
 use crate::refusal::Refusal;
@@ -25,25 +25,16 @@ impl Sheet {
         self.used = 0;
     }
 
-    /// Writes one line more.
-    pub(crate) fn write(&mut self, line: Register)
-        requires { length (written self.old) < 11 }
-        ensures { written self.new ≡ written self.old ++ (line ∷ []) }
-    {
-        // An index here, and no iterator: it is the table's next free place, which the count names.
-        self.lines[self.used] = line;
-        self.used += 1;
-    }
-
     /// Writes these lines, and no other.
     pub(crate) fn fill(&mut self, lines: &[Register])
         requires { length lines.now ≤ 11 }
         ensures { written self.new ≡ lines.now }
     {
-        self.clear();
-        for line in lines {
-            self.write(*line);
-        }
+        // Through a copy: a field that stands beside ghost fields is not lent to a method that writes it.
+        let mut table = self.lines;
+        table[..lines.len()].copy_from_slice(lines);
+        self.lines = table;
+        self.used = lines.len();
     }
 
     /// The lines that are written, the first one first.

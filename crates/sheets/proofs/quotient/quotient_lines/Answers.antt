@@ -1,3 +1,4 @@
+-- Each goal has a context of its own, with the facts of the steps before it: so each answer names again what these gave.
 use Rattle.std.proofs.Common.{arith}
 use Rattle.registers.specs.Values.{number_value}
 use Rattle.sheets.specs.Operands.{units_of}
