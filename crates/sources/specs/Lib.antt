@@ -1,6 +1,7 @@
 pub mod Seeds
 pub mod Delivered
 pub mod Served
+pub mod Asked
 pub mod Fractions
 pub mod Entries
 pub mod Rounds
