@@ -28,9 +28,8 @@ pub struct State {
     lines: usize,
 }
 
-impl State {
-    /// The state of a bench.
-    pub fn of<S: Source>(bench: &Bench<S>) -> State {
+impl<S: Source> From<&Bench<S>> for State {
+    fn from(bench: &Bench<S>) -> State {
         State {
             mode: bench.mode(),
             flags: bench.flags(),

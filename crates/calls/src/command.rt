@@ -48,10 +48,7 @@ fn command_before(words: &mut Words) -> Option<Command> {
 
 /// The command that a line writes, or none.
 pub fn command_of(line: &[u8]) -> Option<Command> {
-    let mut words = Words::of(line);
+    let mut words = Words::new(line);
     let command = command_before(&mut words)?;
-    match words.next() {
-        None => Some(command),
-        Some(_) => None,
-    }
+    words.next().is_none().then_some(command)
 }

@@ -30,10 +30,9 @@ fn result<S: Source>(bench: &mut Bench<S>, command: Command) -> Result<Answer, R
 
 /// The answer to a line.
 fn answer<S: Source>(bench: &mut Bench<S>, line: &[u8]) -> Answer {
-    match command_of(line) {
-        Some(command) => result(bench, command).unwrap_or_else(Answer::Refused),
-        None => Answer::NoCall,
-    }
+    command_of(line).map_or(Answer::NoCall, |command| {
+        result(bench, command).unwrap_or_else(Answer::Refused)
+    })
 }
 
 /// The answers to a list, a line for each line of it, with what the bench shows after each.
@@ -46,7 +45,7 @@ pub fn answers<S: Source>(
     let mut text = String::new(heap);
     for line in list.split_inclusive(|byte| *byte == b'\n') {
         let answer = answer(bench, line.strip_suffix(b"\n").unwrap_or(line));
-        writeln!(text, "{answer} | {}", State::of(bench))?;
+        writeln!(text, "{answer} | {}", State::from(&*bench))?;
     }
     Ok(text)
 }

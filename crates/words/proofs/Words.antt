@@ -7,7 +7,7 @@ use Rattle.std.proofs.lemmas.List.Splits.{slice_split_first, slice_split_none}
 use Rattle.std.proofs.lemmas.List.Sums.{position_or_len_is}
 use Rattle.std.specs.List.{position_or_len}
 use Rattle.std.specs.Borrow.{Bor}
-use Rattle.words.specs.Blanks.{AfterBlank, FirstBlank, words_left, words_of}
+use Rattle.words.specs.Blanks.{AfterBlank, FirstBlank, words_after, words_of}
 
 module _ (line : List ℕ) (n : ℕ) (first : FirstBlank line n) where
   place : position_or_len (λ b. eqb b 32) line ≡ n
@@ -25,6 +25,6 @@ module _ (line : List ℕ) (n : ℕ) (first : FirstBlank line n) where
       rw (slice_split_none (λ b. eqb b 32) line none, take_all n line (omega (arith, e)))
 
 -- the word before the first blank, and those of what stands after it
-pub words_from_first : (line : List ℕ) (n : ℕ) (rest : Option (Bor (List ℕ))) → FirstBlank line n → AfterBlank line n rest → words_of line ≡ take n line ∷ words_left rest
+pub words_from_first : (line : List ℕ) (n : ℕ) (rest : Option (Bor (List ℕ))) → FirstBlank line n → AfterBlank line n rest → words_of line ≡ take n line ∷ words_after rest
 words_from_first line n None first h = last_word line n first h
 words_from_first line n (Some s) first h = rw h.1 (word_before_blank line n first h.0)

@@ -2,7 +2,7 @@
 
 ghost use Rattle.std.specs.Prelude.{◌≡◌, ℕ, ◌+◌, ◌-◌, ◌<◌, ◌≤◌, length, take, drop, ◌∷◌};
 ghost use Rattle.std.specs.Iterator.{YieldsFirstRef, item_count};
-ghost use Rattle.words.specs.Blanks.{AfterBlank, FirstBlank, words_left, words_of};
+ghost use Rattle.words.specs.Blanks.{AfterBlank, FirstBlank, words_after, words_left, words_of};
 
 /// The words of what is left of a line; nothing is left once no blank ended a word.
 #[derive(Drop)]
@@ -28,7 +28,7 @@ fn after_blank(line: &[u8], end: usize) -> Option<&[u8]>
 /// The first word of a line, and what stands after the blank that ends it; nothing where no blank does.
 #[tactic(auto, using(crate::proofs::Words::words_from_first))]
 pub fn first_word(line: &[u8]) -> (&[u8], Option<&[u8]>)
-    ensures words { words_of line.now ≡ result.0.now ∷ words_left result.1 }
+    ensures words { words_of line.now ≡ result.0.now ∷ words_after result.1 }
     ensures places { (n : ℕ) × FirstBlank line.now n × (result.0.now ≡ take n line.now) × AfterBlank line.now n result.1 }
 {
     let end = blank_at(line);
@@ -37,8 +37,8 @@ pub fn first_word(line: &[u8]) -> (&[u8], Option<&[u8]>)
 
 impl<'a> Words<'a> {
     /// The words of a line: one more than it has blanks, and any of them may be empty.
-    pub fn of(line: &'a [u8]) -> Words<'a>
-        ensures { words_left result.0 ≡ words_of line.now }
+    pub fn new(line: &'a [u8]) -> Words<'a>
+        ensures { words_left result ≡ words_of line.now }
     {
         Words(Some(line))
     }
@@ -47,9 +47,9 @@ impl<'a> Words<'a> {
 impl<'a> Iterator for Words<'a> {
     type Item = &'a [u8];
 
-    ghost next_gives = { YieldsFirstRef (λ s. words_left s.0) };
+    ghost next_gives = { YieldsFirstRef words_left };
 
-    ghost remaining = { item_count (λ s. words_left s.0) };
+    ghost remaining = { item_count words_left };
 
     fn next(&mut self) -> Option<&'a [u8]> {
         let (word, rest) = first_word(self.0?);
