@@ -74,46 +74,52 @@ impl Filled<'_> {
     }
 }
 
-/// The page of a quotient over a source.
-pub fn quotient_page(
-    heap: Global,
-    source: Delivered,
-    a: Finite,
-    b: Finite,
-) -> Result<String, AllocError> {
-    let mut sheet = Sheet::new();
-    let closing = fill_quotient(&source, a, b, &mut sheet);
-    let filled = Filled {
-        sheet: &sheet,
-        names: &["y0", "e0", "e1", "y1", "q1", "r1"],
-        closing,
-        negative: a.is_negative() != b.is_negative(),
-    };
-    let mut text = format!(in heap;
-        "Quotient of {} by {} over the {source} source\n\n",
-        Datum::Finite(a).encode(),
-        Datum::Finite(b).encode()
-    )?;
-    filled.write(&mut text)?;
-    Ok(text)
+/// The pages over a source, and the heap that their text is put on.
+#[derive(Clone, Copy)]
+pub struct Pages {
+    pub heap: Global,
+    pub source: Delivered,
 }
 
-/// The page of a root over a source.
-pub fn root_page(heap: Global, source: Delivered, a: Finite) -> Result<String, AllocError> {
-    let mut sheet = Sheet::new();
-    let closing = fill_root(&source, a, &mut sheet);
-    let filled = Filled {
-        sheet: &sheet,
-        names: &[
-            "y0", "S0", "H0", "d0", "H1", "S1", "d1", "e1", "S2", "H2", "e2",
-        ],
-        closing,
-        negative: false,
-    };
-    let mut text = format!(in heap;
-        "Root of {} over the {source} source\n\n",
-        Datum::Finite(a).encode()
-    )?;
-    filled.write(&mut text)?;
-    Ok(text)
+impl Pages {
+    /// The page of a quotient.
+    pub fn quotient(self, a: Finite, b: Finite) -> Result<String, AllocError> {
+        let mut sheet = Sheet::new();
+        let closing = fill_quotient(&self.source, a, b, &mut sheet);
+        let filled = Filled {
+            sheet: &sheet,
+            names: &["y0", "e0", "e1", "y1", "q1", "r1"],
+            closing,
+            negative: a.is_negative() != b.is_negative(),
+        };
+        let mut text = format!(in self.heap;
+            "Quotient of {} by {} over the {} source\n\n",
+            Datum::Finite(a).encode(),
+            Datum::Finite(b).encode(),
+            self.source
+        )?;
+        filled.write(&mut text)?;
+        Ok(text)
+    }
+
+    /// The page of a root.
+    pub fn root(self, a: Finite) -> Result<String, AllocError> {
+        let mut sheet = Sheet::new();
+        let closing = fill_root(&self.source, a, &mut sheet);
+        let filled = Filled {
+            sheet: &sheet,
+            names: &[
+                "y0", "S0", "H0", "d0", "H1", "S1", "d1", "e1", "S2", "H2", "e2",
+            ],
+            closing,
+            negative: false,
+        };
+        let mut text = format!(in self.heap;
+            "Root of {} over the {} source\n\n",
+            Datum::Finite(a).encode(),
+            self.source
+        )?;
+        filled.write(&mut text)?;
+        Ok(text)
+    }
 }

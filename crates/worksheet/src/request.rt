@@ -5,7 +5,7 @@ ghost use Rattle.registers.specs.Coding.{finite_meaning, meaning};
 ghost use Rattle.registers.specs.Values.{Built};
 ghost use Rattle.words.specs.Hexadecimal.{hex_of};
 
-use crate::page::{quotient_page, refinement_page, root_page};
+use crate::page::{Pages, refinement_page};
 use crate::refine::{Constants, refine};
 use crate::trouble::Trouble;
 use registers::{Datum, Finite, Number, Pattern, Register};
@@ -77,22 +77,30 @@ fn refined(heap: Global, p: Pattern) -> Result<String, Trouble> {
 }
 
 /// The sheet of a quotient over a source.
-fn quotient(heap: Global, source: Delivered, a: Pattern, b: Pattern) -> Result<String, Trouble> {
-    Ok(quotient_page(heap, source, operand(a)?, operand(b)?)?)
+fn quotient(pages: Pages, a: Pattern, b: Pattern) -> Result<String, Trouble> {
+    Ok(pages.quotient(operand(a)?, operand(b)?)?)
 }
 
 /// The sheet of a root over a source.
-fn root(heap: Global, source: Delivered, a: Pattern) -> Result<String, Trouble> {
-    Ok(root_page(heap, source, positive_operand(a)?)?)
+fn root(pages: Pages, a: Pattern) -> Result<String, Trouble> {
+    Ok(pages.root(positive_operand(a)?)?)
 }
 
 /// One by three over both sources.
 fn both(heap: Global) -> Result<String, Trouble> {
     let one = Pattern::from_bits(0x3F80_0000);
     let three = Pattern::from_bits(0x4040_0000);
-    let table = quotient(heap, Delivered::Table, one, three)?;
-    let line = quotient(heap, Delivered::Line, one, three)?;
-    Ok(format!(in heap; "{table}\n{line}")?)
+    let table = Pages {
+        heap,
+        source: Delivered::Table,
+    };
+    let line = Pages {
+        heap,
+        source: Delivered::Line,
+    };
+    let first = quotient(table, one, three)?;
+    let second = quotient(line, one, three)?;
+    Ok(format!(in heap; "{first}\n{second}")?)
 }
 
 /// The page that the words ask for.
@@ -102,9 +110,10 @@ pub fn answer(heap: Global, words: &[String]) -> Result<String, Trouble> {
         [word] => refined(heap, pattern_of(word)?),
         [source, sheet, operands @ ..] => {
             let source = source.as_str().parse::<Delivered>()?;
+            let pages = Pages { heap, source };
             match (sheet.as_str(), operands) {
-                ("quotient", [a, b]) => quotient(heap, source, pattern_of(a)?, pattern_of(b)?),
-                ("root", [a]) => root(heap, source, pattern_of(a)?),
+                ("quotient", [a, b]) => quotient(pages, pattern_of(a)?, pattern_of(b)?),
+                ("root", [a]) => root(pages, pattern_of(a)?),
                 ("quotient" | "root", _) => Err(Trouble::Words),
                 _ => Err(Trouble::Sheet),
             }
