@@ -2,6 +2,7 @@
 use Rattle.std.proofs.Common.{◌≡◌, ℕ, zero, suc, ◌+◌, ◌-◌, ◌^◌, ◌<◌, ◌≤◌, Bool, true, false, cond, not, ◌&&◌, ◌||◌, eqb, ltb, ◌⊎◌, List, [], ◌∷◌, ◌++◌, length, get_or, drop, replicate, ℤ, pos, negsuc, nat_abs, Some, None, Err, decimal, Option, Result, sym, refl, ap, ◌∙◌, inl, inr, arith}
 use Rattle.std.proofs.lemmas.Fmt.{decimal-digits_value}
 use Rattle.std.proofs.lemmas.List.{length-append, length-drop, length-replicate}
+use Rattle.std.proofs.lemmas.Option.{cond_some, none-some}
 use Rattle.std.proofs.lemmas.Str.Parse.{digits_value_short}
 use Rattle.std.proofs.lemmas.Bool.{and_parts, cases_Bool, cond-false, cond-true, eqb-false, eqb-true, le-ltb, ltb-true, not-true, or_cases}
 use Rattle.text.specs.declared.refusal.Cause.{Cause}
@@ -12,15 +13,9 @@ use Rattle.text.specs.Standing.{ReadAs, Stands}
 use Rattle.text.proofs.Filling.{length_from_justified}
 use Rattle.text.proofs.Returning.{own, wide_number, wide_plus}
 
-no_some : {X : Type 0} (x : X) → None ≡ Some x → ⊥
-no_some x e = let z : ◌≡◌ {A = ℕ} 0 1 = cc in omega arith
-
-cond_some : {X : Type 0} (b : Bool) (o : Option X) (x : X) → cond b o None ≡ Some x → (b ≡ true) × (o ≡ Some x)
-cond_some true o x e = (refl, e)
-cond_some false o x e = absurd (no_some x e)
-
-same_some : (m n : ℕ) → Some m ≡ Some n → m ≡ n
-same_some m n e = cc
+from_cond : {X : Type 0} (b : Bool) (o : Option X) (x : X) → cond b o None ≡ Some x → (b ≡ true) × (o ≡ Some x)
+from_cond true o x e = (refl, e)
+from_cond false o x e = absurd (none-some x e)
 
 -- one byte, or more of which the first is not the digit 0
 needed_parts : (l b : ℕ) → (eqb l 1 || (ltb 1 l && not (eqb b 48))) ≡ true → (0 < l) × (b ≡ 48 → l ≡ 1)
@@ -35,12 +30,11 @@ needed_parts l b e =
 -- digits with no needless zero are the decimal digits of their number
 whole_only : (ds : List ℕ) (n : ℕ) → length ds ≤ 14 → whole_of ds ≡ Some n → (ds ≡ decimal n) × (n < 10 ^ 14)
 whole_only ds n short e =
-    let p = cond_some (needed ds && digits ds) (Some (read_on 0 ds)) n e in
-    let same : read_on 0 ds ≡ n = same_some (read_on 0 ds) n p.1 in
+    let p = cond_some (needed ds && digits ds) (read_on 0 ds) n e in
     let q = and_parts (needed ds) (digits ds) p.0 in
     let lead = needed_parts (length ds) (get_or ds 0 0) q.0 in
     let small = digits_value_short own ds 14 q.1 short in
-    (sym (decimal-digits_value own ds q.1 lead.0 lead.1 (omega arith)) ∙ ap decimal same, omega arith)
+    (sym (decimal-digits_value own ds q.1 lead.0 lead.1 (omega arith)) ∙ ap decimal p.1, omega arith)
 
 split_by : (v : Bool) (b : ℕ) (bs : List ℕ) → (v ≡ true → b ≡ 32) → (k : ℕ) × (bs ≡ replicate k 32 ++ after_blanks bs) →
     (k : ℕ) × (b ∷ bs ≡ replicate k 32 ++ cond v (after_blanks bs) (b ∷ bs))
@@ -65,12 +59,12 @@ abbrev After : List ℕ → ℤ → Type 0
 After u z = (nat_abs z < 10 ^ 14) × ((u ≡ led (sign_of z) (decimal (nat_abs z))) ⊎ ((n : ℕ) × (z ≡ pos n) × (u ≡ 43 ∷ decimal n)))
 
 minus_only : (o : Option ℕ) (z : ℤ) → negated o ≡ Some z → (n : ℕ) × (o ≡ Some (suc n)) × (z ≡ negsuc n)
-minus_only None z e = absurd (no_some z e)
-minus_only (Some zero) z e = absurd (no_some z e)
+minus_only None z e = absurd (none-some z e)
+minus_only (Some zero) z e = absurd (none-some z e)
 minus_only (Some (suc n)) z e = (n, refl, cc)
 
 plain_only : (o : Option ℕ) (z : ℤ) → unsigned o ≡ Some z → (n : ℕ) × (o ≡ Some n) × (z ≡ pos n)
-plain_only None z e = absurd (no_some z e)
+plain_only None z e = absurd (none-some z e)
 plain_only (Some n) z e = (n, refl, cc)
 
 led_by : (u : List ℕ) (b : ℕ) → 0 < b → get_or u 0 0 ≡ b → u ≡ b ∷ drop 1 u
@@ -113,7 +107,7 @@ after_blanks_lem u z short e =
 -- a column that reads as z writes z
 stands_from : (t : List ℕ) (z : ℤ) → wide_of t ≡ Some z → Stands t z
 stands_from t z e =
-    let p = cond_some (eqb (length t) 14) (signed_of (after_blanks t)) z e in
+    let p = from_cond (eqb (length t) 14) (signed_of (after_blanks t)) z e in
     let whole = eqb-true (length t) 14 p.0 in
     let right = right_justified t whole in
     let a = after_blanks_lem (after_blanks t) z right.1 p.1 in

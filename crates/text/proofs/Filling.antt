@@ -13,7 +13,7 @@ tail_over tail end k e f =
     ∙ ap (λ (r : List ℕ). replicate end 32 ++ r) (append-nil tail)
 
 -- then digits before the tail: what stands before them is blank
-pub over_blanks : (xs tail part d : List ℕ) (at : ℕ) → part ≡ tail → length tail ≤ 14 → at + length d ≡ 14 - length tail →
+over_blanks : (xs tail part d : List ℕ) (at : ℕ) → part ≡ tail → length tail ≤ 14 → at + length d ≡ 14 - length tail →
     take at xs ≡ take at (put_mid (14 - length tail) (14 - (14 - length tail)) (replicate 14 32) part) →
     drop at xs ≡ d ++ drop (14 - length tail) (put_mid (14 - length tail) (14 - (14 - length tail)) (replicate 14 32) part) →
     (take at xs ≡ replicate at 32) × (drop at xs ≡ d ++ tail)
@@ -26,7 +26,7 @@ over_blanks xs tail part d at p l s front back =
     )
 
 -- blanks and then a text are the text right-justified
-pub after_front : (xs t : List ℕ) (k : ℕ) → take k xs ≡ replicate k 32 → drop k xs ≡ t → k + length t ≡ 14 → xs ≡ justified 14 t
+after_front : (xs t : List ℕ) (k : ℕ) → take k xs ≡ replicate k 32 → drop k xs ≡ t → k + length t ≡ 14 → xs ≡ justified 14 t
 after_front xs t k p q e =
     let w : k ≡ 14 - length t = omega arith in
     sym (take-append-drop k xs)
@@ -40,13 +40,26 @@ with_lead xs k b h l =
     let s : k - 1 + 1 ≡ k = omega arith in
     drop-set xs (k - 1) b (omega arith) ∙ ap (λ (i : ℕ). b ∷ drop i xs) s
 
-pub led_column : (xs t : List ℕ) (at b : ℕ) → 0 < at → at ≤ length xs → take at xs ≡ replicate at 32 → drop at xs ≡ t → at + length t ≡ 14 →
+led_column : (xs t : List ℕ) (at b : ℕ) → 0 < at → at ≤ length xs → take at xs ≡ replicate at 32 → drop at xs ≡ t → at + length t ≡ 14 →
     set xs (at - 1) b ≡ justified 14 (b ∷ t)
 led_column xs t at b some h p q e =
     after_front (set xs (at - 1) b) (b ∷ t) (at - 1)
     (take-set xs (at - 1) b ∙ sym (take-take (at - 1) at xs (omega arith)) ∙ ap (take (at - 1)) p ∙ take-replicate (at - 1) at 32 (omega arith))
     (with_lead xs at b some h ∙ ap (λ (r : List ℕ). b ∷ r) q)
     (omega arith)
+
+-- then what leads the digits, if there is anything
+pub filled : (xs tail part d : List ℕ) (at : ℕ) (lead : Option ℕ) → part ≡ tail → leads lead + length d + length tail ≤ 14 → at ≤ length xs → at + length d ≡ 14 - length tail →
+    take at xs ≡ take at (put_mid (14 - length tail) (14 - (14 - length tail)) (replicate 14 32) part) →
+    drop at xs ≡ d ++ drop (14 - length tail) (put_mid (14 - length tail) (14 - (14 - length tail)) (replicate 14 32) part) →
+    (lead ≡ None → xs ≡ justified 14 (led lead (d ++ tail))) × ((b : ℕ) → lead ≡ Some b → set xs (at - 1) b ≡ justified 14 (led lead (d ++ tail)))
+filled xs tail part d at lead p l m s front back =
+    let o = over_blanks xs tail part d at p (omega arith) s front back in (
+      λ e. after_front xs (d ++ tail) at o.0 o.1 (omega (arith, length-append d tail)) ∙ sym (ap (λ (z : Option ℕ). justified 14 (led z (d ++ tail))) e),
+      λ b e.
+          let one = ap leads e in
+          led_column xs (d ++ tail) at b (omega arith) m o.0 o.1 (omega (arith, length-append d tail)) ∙ sym (ap (λ (z : Option ℕ). justified 14 (led z (d ++ tail))) e),
+    )
 
 pub length_led : (o : Option ℕ) (t : List ℕ) → length (led o t) ≡ length t + leads o
 length_led None t = omega arith

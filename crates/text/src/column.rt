@@ -94,6 +94,7 @@ pub(crate) fn narrow(n: i64) -> Result<i32, Cause>
 }
 
 /// The number that a column of 14 bytes writes: `Cause::Digits` where it writes none, `Cause::Range` where it has more than 32 bits.
+#[tactic(auto, using(crate::proofs::Deciding::read_as))]
 pub fn read_column(column: &[u8]) -> Result<i32, Cause>
     ensures value { result ≡ column_of column.now }
     ensures meaning { ReadAs column.now result }

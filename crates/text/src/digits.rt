@@ -62,6 +62,7 @@ pub(crate) fn measure_column(n: i64) -> Column
 }
 
 /// The column of any signed 32-bit number; reading it gives the number back.
+#[tactic(auto, using(crate::proofs::Returning::reads_back))]
 pub fn write_column(n: i32) -> Column
     ensures text { result ≡ number_text n }
     ensures reads { column_of result ≡ Ok n }

@@ -34,6 +34,7 @@ pub(crate) fn is_ended(line: &[u8]) -> bool
 }
 
 /// The next line of a text and the text after it, in time linear in the line's length; nothing at the text's end.
+#[tactic(auto, using(crate::proofs::Falling::lines_rejoined))]
 pub fn next_line(text: &[u8]) -> Option<Next<'_>>
     ensures value { handed result ≡ next_of text.now }
     ensures shorter { Shorter text.now (handed result) }
