@@ -1,7 +1,8 @@
 -- Reading goes from left to right: what is left of a text gives, with what was read of it, what the whole text gives.
-use Rattle.std.proofs.Common.{◌≡◌, ℕ, ◌+◌, ◌-◌, ◌*◌, ◌^◌, ◌<◌, ◌≤◌, Bool, true, false, cond, leb, List, [], ◌∷◌, length, drop, Some, None, refl, sym, ap, ◌∙◌, arith}
+use Rattle.std.proofs.Common.{◌≡◌, ℕ, ◌+◌, ◌-◌, ◌*◌, ◌^◌, ◌<◌, ◌≤◌, Bool, true, false, cond, leb, List, [], ◌∷◌, length, take, drop, Some, None, refl, sym, ap, ◌∙◌, arith}
 use native.Mathlib.Nat.{pow-le-pow_right}
-use Rattle.std.proofs.lemmas.List.{at_drop_all, drop-drop}
+use Rattle.std.proofs.lemmas.List.{at_drop_all, drop-drop, take_rest}
+use Rattle.std.proofs.lemmas.List.Folds.{length-prefix_len}
 use Rattle.std.proofs.lemmas.Bool.{cond-true, and_from, and_parts, leb-true}
 use Rattle.std.specs.List.{prefix_len}
 use Rattle.text.specs.Columns.{blank, after_blanks, digit, digit_of, digits, read_on, needed, whole_of}
@@ -33,6 +34,9 @@ passed_by true b bs n e = e ∙ drop-drop n 1 (b ∷ bs)
 passed_by false b bs n e = refl
 
 -- what stands after the blanks is what is left when they are passed
-pub after_blanks_passed : (t : List ℕ) → after_blanks t ≡ drop (prefix_len blank t) t
+after_blanks_passed : (t : List ℕ) → after_blanks t ≡ drop (prefix_len blank t) t
 after_blanks_passed [] = refl
 after_blanks_passed (b ∷ bs) = passed_by (blank b) b bs (prefix_len blank bs) (after_blanks_passed bs)
+
+pub after_blanks_rest : (t : List ℕ) (n : ℕ) → n ≡ length (take (prefix_len blank t) t) → take (length t - n) (drop n t) ≡ after_blanks t
+after_blanks_rest t n e = take_rest t n ∙ ap (λ (k : ℕ). drop k t) (e ∙ length-prefix_len blank t) ∙ sym (after_blanks_passed t)

@@ -1,6 +1,7 @@
 //! Reading a column of a plan line: 14 bytes, a whole number after blanks.
 
-ghost use Rattle.std.specs.Prelude.{◌≡◌, ◌≤◌, length};
+ghost use Rattle.std.specs.Prelude.{◌≡◌, ◌≤◌, length, take};
+ghost use Rattle.std.specs.List.{prefix_len};
 ghost use Rattle.text.specs.Standing.{ReadAs};
 ghost use Rattle.text.specs.Columns.{after_blanks, blank, column_of, digit_of, narrowed, needed, signed_of, unsigned, whole_of, wide_of};
 
@@ -52,13 +53,20 @@ fn is_blank(byte: u8) -> bool
     byte == b' '
 }
 
+/// How many blanks stand at the front.
+fn blanks(text: &[u8]) -> usize
+    ensures { result ≡ length (take (prefix_len blank text.now) text.now) }
+{
+    text.iter().take_while(|byte| is_blank(**byte)).count()
+}
+
 /// What stands after the blanks at the front.
+#[tactic(auto, using(crate::proofs::Reading::after_blanks_rest))]
 fn after_blanks(text: &[u8]) -> &[u8]
     ensures value { result.now ≡ after_blanks text.now }
     ensures short { length result.now ≤ length text.now }
 {
-    let blanks = text.iter().take_while(|byte| is_blank(**byte)).count();
-    &text[blanks..]
+    &text[blanks(text)..]
 }
 
 /// The number that a sign or none and digits write; after a minus it is not zero.
