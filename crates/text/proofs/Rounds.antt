@@ -2,7 +2,7 @@
 use Rattle.std.proofs.Common.{◌≡◌, ℕ, zero, suc, ◌+◌, ◌*◌, ◌<◌, Bool, true, false, cond, ◌||◌, List, [], ◌∷◌, length, get_or, map, ℤ, pos, negsuc, Some, None, Ok, Err, Option, Result, sym, refl, ap, ◌∙◌, arith}
 use lib.Signed.{lt_z}
 use Rattle.std.proofs.lemmas.Bool.{cond-true, cond-false}
-use Rattle.std.proofs.lemmas.List.{get_or-map, length-map}
+use Rattle.std.proofs.lemmas.List.{get_or-map, get_or_default, length-map, same_lists}
 use Rattle.text.specs.declared.refusal.Cause.{Cause}
 use Rattle.text.specs.declared.refusal.Cause.TheVariants.{Digits, Range}
 use Rattle.text.specs.declared.refusal.Fault.{Fault}
@@ -67,13 +67,11 @@ narrow_err byte y fault e = err_by (outside y) byte y fault e
 
 same_numbers : (rs : List (Result ℤ Cause)) (ns : List ℤ) → length ns ≡ length rs →
     ((j : ℕ) → j < length rs → get_or rs j (Ok (pos 0)) ≡ Ok (get_or ns j (pos 0))) → ns ≡ map number_of rs
-same_numbers [] [] l h = refl
-same_numbers [] (n ∷ ns) l h = absurd (omega arith)
-same_numbers (r ∷ rs) [] l h = absurd (omega arith)
-same_numbers (r ∷ rs) (n ∷ ns) l h =
-    let first : n ≡ number_of r = sym (ap number_of (h 0 (omega arith))) in
-    let others = same_numbers rs ns (omega arith) (λ j m. h (suc j) (omega arith)) in
-    ap (λ (x : ℤ). x ∷ ns) first ∙ ap (λ (xs : List ℤ). number_of r ∷ xs) others
+same_numbers rs ns l h =
+    same_lists ns (map number_of rs) (omega (arith, length-map rs number_of))
+    (λ k d m.
+    let n : k < length rs = omega arith in
+    get_or_default ns k d (pos 0) m ∙ sym (get_or-map number_of rs k (Ok (pos 0)) d n ∙ ap number_of (h k n)))
 
 module _ (cs : List (Option ℤ)) (ws : List ℤ) where
   read_at : (j : ℕ) → j < length cs → get_or cs j None ≡ Some (get_or ws j (pos 0)) → get_or (map judged cs) j (Ok (pos 0)) ≡ narrowed (get_or ws j (pos 0))

@@ -122,7 +122,7 @@ fn numbers<const N: usize>(columns: [Option<i64>; N]) -> Result<[i32; N], Fault>
     requires { N ≤ 3 }
     ensures { result ≡ numbers_of (map judged columns.entry) }
 {
-    // Written by index: a `zip` with `iter_mut` leaves goals on the memory of an array of `N` elements that did not close.
+    // Written by index: after an adapter of `iter_mut` a proof knows no element, and `array::try_from_fn` does not say that its error is the first.
     let mut wides = [0; N];
     for (k, column) in columns.iter().enumerate() {
         wides[k] = digits_at(*column, k as u8)?;

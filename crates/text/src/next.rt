@@ -49,7 +49,8 @@ pub fn next_line(text: &[u8]) -> Option<Next<'_>>
 }
 
 /// The lines of a text, each with its byte 10 where it has one, from the first to the last.
-#[derive(Clone, Copy)]
+// Not std's `split_inclusive`: its type names a closure, so no function with a contract over `lines_of` can hand it out.
+#[derive(Drop)]
 pub struct Lines<'a> {
     pub(crate) rest: &'a [u8],
 }

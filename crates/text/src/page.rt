@@ -60,6 +60,7 @@ fn is_writable(number: u8, line: u32) -> bool
 
 /// Writes a refusal's number, 3, 4 or 6, and its line, 1 to 1,000,000, on the page from `at` on: `Unwritable` at any other
 /// number or line, and then `PageFull` where fewer than 29 bytes are left there. All other bytes stay.
+// The number is a plain `u8`, and no enum: that any other number is refused is a promise of this call.
 pub fn write_refusal(page: &mut [u8], at: usize, number: u8, line: u32) -> Result<(), Refusal>
     ensures answer { result ≡ refusal_placed page.old at number line }
     ensures after { page.new ≡ refusal_after page.old at number line }
