@@ -10,7 +10,7 @@ use registers::{Choice, FusedSum, Number, Refusal, Register};
 
 /// `r + p·q` or `r - p·q`, rounded to 30 bits.
 // Four parameters by place, and no literal of the sum at each call: a round reads as its formula so.
-// The program `worksheet` has one like it: neither calls the other, and no crate below both has a width of its own.
+// The program `worksheet` has one like it: a step is no part of what a crate of seeds gives, and the step below both takes any width.
 #[tactic(auto, unfolding(crate::specs::Rounds::step))]
 pub(crate) fn step(
     r: Register,

@@ -30,7 +30,7 @@ impl Sheet {
         requires { length lines.now ≤ 11 }
         ensures { written self.new ≡ lines.now }
     {
-        // Through a copy: a field that stands beside ghost fields is not lent to a method that writes it.
+        // Through a copy of the table: the check does not yet lend this field, which stands beside ghost fields, for writing.
         let mut table = self.lines;
         table[..lines.len()].copy_from_slice(lines);
         self.lines = table;
