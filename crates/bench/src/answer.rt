@@ -5,7 +5,7 @@ ghost use Rattle.bench.specs.Tables.{answered, nan as nan_of, rounded_answer, sp
 ghost use Rattle.bench.specs.Values.{exact_rounded};
 
 use crate::flags::Flags;
-use registers::{Pattern, Rounded};
+use registers::{Datum, Pattern, Rounded};
 
 /// What a call gives: the pattern of its result and the flags that it raises.
 #[derive(Clone, Copy, PartialEq, Eq, Debug)]
@@ -31,7 +31,7 @@ pub(crate) enum Special {
 fn nan() -> Pattern
     ensures { result ≡ nan_of }
 {
-    Pattern::from_bits(0x7FC0_0000)
+    Datum::Nan { quiet: true }.encode()
 }
 
 /// A pattern as a rounded value that is exact.

@@ -47,10 +47,7 @@ fn cut(p: Operand) -> u32
     requires { units p.pattern < 2 ^ 24 * 2 ^ 149 }
     ensures { result ≡ units p.pattern / 2 ^ 149 }
 {
-    match p.number() {
-        Some(x) => whole_part(x),
-        None => 0,
-    }
+    p.number().map_or(0, whole_part)
 }
 
 /// A closing value rounded toward zero.

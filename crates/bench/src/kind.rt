@@ -33,11 +33,11 @@ pub(crate) fn is_nan(p: Pattern) -> bool
 }
 
 /// Whether it is a signalling NaN: one whose bit 22 is not set.
-#[tactic(auto, unfolding(crate::specs::Kinds::is_signalling))]
+#[tactic(auto, unfolding(crate::specs::Kinds::is_signalling, crate::specs::Kinds::is_nan))]
 pub(crate) fn is_signalling(p: Pattern) -> bool
     ensures { result ≡ is_signalling p }
 {
-    (unsigned(p) > INFINITY) & (p.bits() / 0x40_0000 % 2 != 1)
+    is_nan(p) & (p.bits() / 0x40_0000 % 2 != 1)
 }
 
 /// Whether it is an infinity.

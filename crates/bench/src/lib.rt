@@ -15,6 +15,7 @@ mod operand;
 pub mod refusal;
 mod remainder;
 mod root;
+mod scaled;
 mod table;
 pub mod whole;
 

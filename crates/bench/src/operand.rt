@@ -5,7 +5,7 @@ ghost use Rattle.registers.specs.Range.{bias};
 ghost use Rattle.registers.specs.Values.{value};
 ghost use Rattle.bench.specs.Kinds.{Stands, is_negative, units, unsigned};
 
-use registers::{Datum, Finite, Number, Pattern, Register};
+use registers::{Datum, Finite, Pattern, Register};
 
 /// An operand that no row of a table decides: a finite pattern.
 #[derive(Clone, Copy)]
@@ -47,9 +47,6 @@ impl Operand {
         ensures size { (value result).units ≡ units self.pattern * 2 ^ (bias - 149) }
         ensures sign { 0 < units self.pattern → (value result).negative ≡ is_negative self.pattern }
     {
-        match self.number() {
-            Some(x) => Register::Nonzero(Number::from(x)),
-            None => Register::Zero,
-        }
+        self.number().map_or(Register::Zero, Register::from)
     }
 }

@@ -14,17 +14,10 @@ ghost use Rattle.bench.specs.Values.{ExactRemainder, beside_exact, remainder_sig
 use crate::answer::{Special, exact};
 use crate::kind::is_negative;
 use crate::operand::Operand;
+use crate::scaled::Scaled;
 use crate::table::remainder_table;
 use registers::{Datum, Finite, Mode, Pattern, Rounded};
 use std::cmp::Ordering;
-
-/// A magnitude of `significand · 2^exponent` units of `2^-149`, which may be zero.
-#[derive(Clone, Copy)]
-struct Scaled {
-    significand: u32,
-    exponent: u32,
-    ghost form: { (significand < 2 ^ 24) × (exponent ≤ 253) },
-}
 
 /// The magnitude of an operand.
 fn magnitude_of(p: Operand) -> Scaled
@@ -133,16 +126,6 @@ fn remainder_scaled(x: Scaled, y: Finite) -> Difference
     divide_doubling(x.significand, x.exponent - exponent, m).nearest(exponent)
 }
 
-/// A sign and a magnitude as a datum.
-fn datum(negative: bool, size: Scaled) -> Datum
-    ensures { denoted result ≡ finite negative (size.significand * 2 ^ size.exponent) }
-{
-    match Finite::new(negative, size.significand, size.exponent) {
-        Some(x) => Datum::Finite(x),
-        None => Datum::Zero { negative },
-    }
-}
-
 // Two operands, one by one: a struct of them would be made once and taken apart once.
 /// The remainder of operands, exactly.
 fn remainder_exact(x: Operand, y: Operand) -> Datum
@@ -150,7 +133,7 @@ fn remainder_exact(x: Operand, y: Operand) -> Datum
     ensures { denoted result ≡ finite (remainder_sign x.pattern y.pattern) (remainder_units x.pattern y.pattern) }
 {
     let z = remainder_scaled(magnitude_of(x), y.nonzero());
-    datum(is_negative(x.pattern) != z.turned, z.size)
+    z.size.datum(is_negative(x.pattern) != z.turned)
 }
 
 /// A finite number rounded in any mode: it is its own pattern, with no flag.

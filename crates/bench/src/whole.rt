@@ -6,7 +6,8 @@ ghost use Rattle.registers.specs.Modes.{with_sign};
 ghost use Rattle.bench.specs.Counts.{greatest, with_sign_ℤ};
 ghost use Rattle.bench.specs.Distances.{whole_pattern};
 
-use registers::{Datum, Finite, Pattern};
+use crate::scaled::Scaled;
+use registers::{Finite, Pattern};
 
 /// The greatest magnitude, which 24 bits hold.
 pub(crate) const GREATEST: u32 = 16_777_215;
@@ -38,10 +39,11 @@ impl Magnitude {
     fn pattern(self, negative: bool) -> Pattern
         ensures { result.bits ≡ with_sign negative (encoded (self.value * 2 ^ 149)) }
     {
-        match self.number(negative) {
-            Some(x) => Datum::Finite(x).encode(),
-            None => Datum::Zero { negative }.encode(),
-        }
+        let size = Scaled {
+            significand: self.value,
+            exponent: 149,
+        };
+        size.datum(negative).encode()
     }
 
     /// The whole number of a sign and this magnitude.

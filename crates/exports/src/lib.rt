@@ -17,7 +17,7 @@ const UNFIT: u64 = 1 << 63;
 /// The register number of a finite pattern.
 fn register(bits: u32) -> Option<Register> {
     match Pattern::from_bits(bits).decode() {
-        Datum::Finite(x) => Some(Register::Nonzero(Number::from(x))),
+        Datum::Finite(x) => Some(Register::from(x)),
         Datum::Zero { negative: _ } => Some(Register::Zero),
         _ => None,
     }
