@@ -1,6 +1,6 @@
 //! Whole numbers counted: the quotient cut toward zero and the remainder.
 
-ghost use Rattle.std.specs.Prelude.{◌≡◌, ◌*◌, ◌/◌, ◌%◌, ◌^◌, ◌<◌, false, unsigned_abs};
+ghost use Rattle.std.specs.Prelude.{◌≡◌, ◌*◌, ◌/◌, ◌%◌, ◌^◌, ◌<◌, None, Some, MatchResult, false};
 ghost use Rattle.registers.specs.declared.mode.Mode.TheVariants.{TowardZero as TowardZeroCase};
 ghost use Rattle.registers.specs.Binary32.{beside_whole};
 ghost use Rattle.registers.specs.Modes.{rounded};
@@ -8,16 +8,15 @@ ghost use Rattle.sheets.specs.Closed.{closing_size};
 ghost use Rattle.sheets.specs.Operands.{units_of};
 ghost use Rattle.sheets.specs.Written.{values};
 ghost use Rattle.bench.specs.Benches.{KeptIfRefused};
-ghost use Rattle.bench.specs.Counts.{count_answer, count_refusal, counted};
+ghost use Rattle.bench.specs.Counts.{count_answer, count_refusal};
 ghost use Rattle.bench.specs.Desks.{SheetAlone};
 ghost use Rattle.bench.specs.Kinds.{units};
-ghost use Rattle.bench.specs.Unless.{unless};
 ghost use Rattle.bench.specs.Worksheets.{CountCloses, CountLeaves, CountLines};
 
 use crate::desk::Desk;
 use crate::operand::Operand;
 use crate::refusal::Refusal;
-use crate::whole::{GREATEST, Magnitude};
+use crate::whole::{Magnitude, Nonzero};
 use registers::{Finite, Mode, Rounded};
 use sheets::{Closing, fill_quotient};
 use sources::Source;
@@ -58,69 +57,44 @@ fn toward_zero(closing: Closing) -> Rounded
 }
 
 /// What a quotient leaves of a dividend.
-fn rest_of(m: u32, n: u32, quotient: u32) -> u32
-    requires { (0 < n) × (quotient ≡ m / n) }
-    ensures { result ≡ m % n }
+fn rest_of(m: Magnitude, n: Nonzero, quotient: u32) -> u32
+    requires { quotient ≡ m.value / n.value }
+    ensures { result ≡ m.value % n.value }
 {
-    m - quotient * n
+    m.value - quotient * n.value
 }
 
-/// Refuses the count of these magnitudes where one is out of range, and else where the divisor is zero.
-fn admit(m: u32, n: u32) -> Result<(), Refusal>
-    ensures { result ≡ unless (count_refusal m n) tt }
+/// A dividend and a divisor of these magnitudes. Refused where one is out of range, and else where the divisor is zero.
+fn admit(m: u32, n: u32) -> Result<(Magnitude, Nonzero), Refusal>
+    ensures { MatchResult result (λ p. (None ≡ count_refusal m n) × (p.0.value ≡ m) × (p.1.value ≡ n)) (λ e. Some e ≡ count_refusal m n) }
 {
-    if (m > GREATEST) | (n > GREATEST) {
-        return Err(Refusal::Beyond);
-    }
-    if n == 0 {
-        return Err(Refusal::ZeroDivisor);
-    }
-    Ok(())
+    let dividend = Magnitude::within(u64::from(m)).ok_or(Refusal::Beyond)?;
+    let divisor = Magnitude::within(u64::from(n)).ok_or(Refusal::Beyond)?;
+    Ok((dividend, divisor.nonzero().ok_or(Refusal::ZeroDivisor)?))
 }
 
 impl<S: Source> Desk<S> {
     /// The quotient of magnitudes other than zero, from their sheet.
-    fn whole_quotient(&mut self, m: Magnitude, n: Magnitude) -> u32
-        requires { (0 < m.value) × (0 < n.value) }
+    fn whole_quotient(&mut self, m: Nonzero, n: Nonzero) -> u32
         ensures value { result ≡ m.value / n.value }
         ensures sheet { CountCloses (S.Source.reciprocals self.old.source) m.value n.value (values self.new.sheet) result }
         ensures kept { SheetAlone self.old self.new }
     {
-        let dividend = m.number(false).unwrap();
-        let divisor = n.number(false).unwrap();
-        let closing = fill_quotient(&self.source, dividend, divisor, &mut self.sheet);
+        let closing = fill_quotient(&self.source, m.number(), n.number(), &mut self.sheet);
         cut(Operand::new(toward_zero(closing).pattern))
     }
 
     /// The quotient of magnitudes. A dividend of zero leaves no line.
-    fn count_magnitudes(&mut self, m: Magnitude, n: Magnitude) -> u32
-        requires { 0 < n.value }
+    fn count_magnitudes(&mut self, m: Magnitude, n: Nonzero) -> u32
         ensures value { result ≡ m.value / n.value }
         ensures sheet { CountLines (S.Source.reciprocals self.old.source) m.value n.value (values self.new.sheet) result }
         ensures kept { SheetAlone self.old self.new }
     {
-        if m.value == 0 {
+        let Some(m) = m.nonzero() else {
             self.sheet.clear();
             return 0;
-        }
+        };
         self.whole_quotient(m, n)
-    }
-
-    /// The count of whole numbers in range.
-    fn count_in_range(&mut self, a: i32, b: i32) -> Counted
-        requires { (unsigned_abs a < 2 ^ 24) × ((unsigned_abs b < 2 ^ 24) × (0 < unsigned_abs b)) }
-        ensures value { result ≡ counted a b }
-        ensures sheet { CountLines (S.Source.reciprocals self.old.source) (unsigned_abs a) (unsigned_abs b) (values self.new.sheet) (unsigned_abs result.quotient) }
-        ensures kept { SheetAlone self.old self.new }
-    {
-        let m = Magnitude::new(a.unsigned_abs());
-        let n = Magnitude::new(b.unsigned_abs());
-        let whole = self.count_magnitudes(m, n);
-        let rest = rest_of(m.value, n.value, whole);
-        Counted {
-            quotient: Magnitude::new(whole).signed(a.is_negative() != b.is_negative()),
-            remainder: Magnitude::new(rest).signed(a.is_negative()),
-        }
     }
 
     /// What the count of `a` by `b` answers, and the sheet that it leaves.
@@ -130,7 +104,12 @@ impl<S: Source> Desk<S> {
         ensures sheet { CountLeaves (S.Source.reciprocals self.old.source) a b self.old.sheet self.new.sheet result }
         ensures kept { KeptIfRefused result self.old self.new }
     {
-        admit(a.unsigned_abs(), b.unsigned_abs())?;
-        Ok(self.count_in_range(a, b))
+        let (m, n) = admit(a.unsigned_abs(), b.unsigned_abs())?;
+        let whole = self.count_magnitudes(m, n);
+        let rest = rest_of(m, n, whole);
+        Ok(Counted {
+            quotient: Magnitude::new(whole).signed(a.is_negative() != b.is_negative()),
+            remainder: Magnitude::new(rest).signed(a.is_negative()),
+        })
     }
 }

@@ -1,8 +1,9 @@
 //! Whole numbers as patterns.
 
 ghost use Rattle.std.specs.Prelude.{◌≡◌, ◌*◌, ◌^◌, ◌<◌, ◌≤◌, MatchOption, unsigned_abs};
-ghost use Rattle.registers.specs.Coding.{encoded, finite, finite_meaning};
+ghost use Rattle.registers.specs.Coding.{encoded};
 ghost use Rattle.registers.specs.Modes.{with_sign};
+ghost use Rattle.sheets.specs.Operands.{units_of};
 ghost use Rattle.bench.specs.Counts.{greatest, with_sign_ℤ};
 ghost use Rattle.bench.specs.Distances.{whole_pattern};
 
@@ -10,7 +11,7 @@ use crate::scaled::Scaled;
 use registers::{Finite, Pattern};
 
 /// The greatest magnitude, which 24 bits hold.
-pub(crate) const GREATEST: u32 = 16_777_215;
+const GREATEST: u32 = 16_777_215;
 
 /// The magnitude of a whole number within ±16,777,215.
 #[derive(Clone, Copy)]
@@ -20,6 +21,16 @@ pub(crate) struct Magnitude {
 }
 
 impl Magnitude {
+    /// The magnitude of this value, or nothing where 24 bits do not hold it.
+    pub(crate) fn within(n: u64) -> Option<Magnitude>
+        ensures { MatchOption result (greatest < n) (λ m. (n ≤ greatest) × (m.value ≡ n)) }
+    {
+        if n > u64::from(GREATEST) {
+            return None;
+        }
+        Some(Magnitude { value: n as u32 })
+    }
+
     /// The magnitude of this value.
     pub(crate) fn new(value: u32) -> Magnitude
         requires { value < 2 ^ 24 }
@@ -28,11 +39,14 @@ impl Magnitude {
         Magnitude { value }
     }
 
-    /// The number of a sign and this magnitude, or nothing where that is zero.
-    pub(crate) fn number(self, negative: bool) -> Option<Finite>
-        ensures { MatchOption result (self.value ≡ 0) (λ x. finite_meaning x ≡ finite negative (self.value * 2 ^ 149)) }
+    /// This magnitude as one that is not zero, or nothing where it is.
+    pub(crate) fn nonzero(self) -> Option<Nonzero>
+        ensures { MatchOption result (self.value ≡ 0) (λ n. n.value ≡ self.value) }
     {
-        Finite::new(negative, self.value, 149)
+        if self.value == 0 {
+            return None;
+        }
+        Some(Nonzero { value: self.value })
     }
 
     /// The pattern of a sign and this magnitude.
@@ -55,13 +69,26 @@ impl Magnitude {
     }
 }
 
+/// A magnitude other than zero.
+#[derive(Clone, Copy)]
+pub(crate) struct Nonzero {
+    pub(crate) value: u32,
+    ghost form: { (0 < value) × (value < 2 ^ 24) },
+}
+
+impl Nonzero {
+    /// The number of plus and this magnitude.
+    pub(crate) fn number(self) -> Finite
+        ensures { units_of result ≡ self.value * 2 ^ 149 }
+    {
+        Finite::new(false, self.value, 149).unwrap()
+    }
+}
+
 /// The pattern of a whole number, or nothing beyond ±16,777,215.
 pub fn whole_pattern(n: i64) -> Option<Pattern>
     ensures { MatchOption result (greatest < unsigned_abs n) (λ p. (unsigned_abs n ≤ greatest) × (p ≡ whole_pattern n)) }
 {
-    let magnitude = n.unsigned_abs();
-    if magnitude > GREATEST as u64 {
-        return None;
-    }
-    Some(Magnitude::new(magnitude as u32).pattern(n.is_negative()))
+    let magnitude = Magnitude::within(n.unsigned_abs())?;
+    Some(magnitude.pattern(n.is_negative()))
 }

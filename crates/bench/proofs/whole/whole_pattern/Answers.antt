@@ -9,7 +9,7 @@ pub returns : goal.returns
 unfolding whole_pattern
 returns c =
     let z = to_z-of_z w64 c.args.n c.ranges.n in
-    let u : c.unsigned_abs-magnitude.result ≡ nat_abs c.args.n = c.unsigned_abs-magnitude.ensures.value ∙ ap nat_abs z in
-    let m : c.new.result.value ≡ nat_abs c.args.n = c.new.ensures ∙ u in
+    let u : c.unsigned_abs.result ≡ nat_abs c.args.n = c.unsigned_abs.ensures.value ∙ ap nat_abs z in
+    let m : c.in_ok-magnitude.magnitude.value ≡ nat_abs c.args.n = c.in_ok-magnitude.ensures.1 ∙ u in
     let s = c.is_negative.ensures ∙ ap is_negative z ∙ negative_is c.args.n in
-    (omega (arith, u), ap (λ (b : ℕ). record { bits = b }) (c.pattern.ensures ∙ rw (s, m) refl))
+    (omega (arith, u, c.in_ok-magnitude.ensures.0), ap (λ (b : ℕ). record { bits = b }) (c.pattern.ensures ∙ rw (s, m) refl))
