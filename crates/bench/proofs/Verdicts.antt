@@ -57,9 +57,9 @@ nonzero : (p : Pattern) → is_zero p ≡ false → 0 < unsigned p
 unfolding is_zero
 nonzero p z = let b : unsigned p ≡ 0 → ⊥ = eqb-false (unsigned p) 0 z in omega (arith, b)
 
-pub remainder_operands : (x y : Pattern) → None ≡ remainder_table x y → (unsigned x < 0x7F800000) × (unsigned y < 0x7F800000) × (0 < unsigned y)
-remainder_operands x y e =
-    let a = row_off (is_signalling x || is_signalling y) Invalid _ e in
+pub remainder_operands : (x y : Pattern) {T : Type 0} (v w : T) → Ok v ≡ unless (remainder_table x y) w → (unsigned x < 0x7F800000) × (unsigned y < 0x7F800000) × (0 < unsigned y)
+remainder_operands x y v w is =
+    let a = row_off (is_signalling x || is_signalling y) Invalid _ (undecided _ v w is) in
     let b = row_off (is_nan x || is_nan y) Quiet _ a.1 in
     let c = row_off (is_infinite x || is_zero y) Invalid _ b.1 in
     let d = row_off (is_infinite y) (Given x) _ c.1 in
@@ -67,9 +67,9 @@ remainder_operands x y e =
     let i = or_parts (is_infinite x) (is_zero y) c.0 in
     (finite x n.0 i.0, finite y n.1 d.0, nonzero y i.1)
 
-pub divide_operands : (a b : Pattern) → None ≡ divide_table a b → (unsigned a < 0x7F800000) × (unsigned b < 0x7F800000) × (0 < unsigned a) × (0 < unsigned b)
-divide_operands a b e =
-    let r1 = row_off (is_signalling a || is_signalling b) Invalid _ e in
+pub divide_operands : (a b : Pattern) {T : Type 0} (v w : T) → Ok v ≡ unless (divide_table a b) w → (unsigned a < 0x7F800000) × (unsigned b < 0x7F800000) × (0 < unsigned a) × (0 < unsigned b)
+divide_operands a b v w is =
+    let r1 = row_off (is_signalling a || is_signalling b) Invalid _ (undecided _ v w is) in
     let r2 = row_off (is_nan a || is_nan b) Quiet _ r1.1 in
     let r3 = row_off (is_infinite a && is_infinite b) Invalid _ r2.1 in
     let r4 = row_off (is_zero a && is_zero b) Invalid _ r3.1 in
@@ -80,18 +80,18 @@ divide_operands a b e =
     let i = or_parts (is_infinite b) (is_zero a) r6.0 in
     (finite a n.0 r5.0, finite b n.1 i.0, nonzero a i.1, nonzero b r7.0)
 
-pub root_operand : (a : Pattern) → None ≡ root_table a → (unsigned a < 0x7F800000) × (0 < unsigned a) × (is_negative a ≡ false)
-root_operand a e =
-    let r1 = row_off (is_signalling a) Invalid _ e in
+pub root_operand : (a : Pattern) {T : Type 0} (v w : T) → Ok v ≡ unless (root_table a) w → (unsigned a < 0x7F800000) × (0 < unsigned a) × (is_negative a ≡ false)
+root_operand a v w is =
+    let r1 = row_off (is_signalling a) Invalid _ (undecided _ v w is) in
     let r2 = row_off (is_nan a) Quiet _ r1.1 in
     let r3 = row_off (is_zero a) (Given a) _ r2.1 in
     let r4 = row_off (is_negative a) Invalid _ r3.1 in
     let r5 = row_off (is_infinite a) (Given a) _ r4.1 in
     (finite a r2.0 r5.0, nonzero a r3.0, r4.0)
 
-pub fuse_operands : (p q r : Pattern) → None ≡ fuse_table p q r → (unsigned p < 0x7F800000) × (unsigned q < 0x7F800000) × (unsigned r < 0x7F800000)
-fuse_operands p q r e =
-    let r1 = row_off (is_signalling p || is_signalling q || is_signalling r) Invalid _ e in
+pub fuse_operands : (p q r : Pattern) {T : Type 0} (v w : T) → Ok v ≡ unless (fuse_table p q r) w → (unsigned p < 0x7F800000) × (unsigned q < 0x7F800000) × (unsigned r < 0x7F800000)
+fuse_operands p q r v w is =
+    let r1 = row_off (is_signalling p || is_signalling q || is_signalling r) Invalid _ (undecided _ v w is) in
     let r2 = row_off (is_infinite p && is_zero q) Invalid _ r1.1 in
     let r3 = row_off (is_zero p && is_infinite q) Invalid _ r2.1 in
     let r4 = row_off (is_nan p || is_nan q || is_nan r) Quiet _ r3.1 in

@@ -35,7 +35,7 @@ fn nan() -> Pattern
 }
 
 /// A pattern as a rounded value that is exact.
-pub(crate) fn exact(pattern: Pattern) -> Rounded
+pub(crate) fn exact_rounding(pattern: Pattern) -> Rounded
     ensures { result ≡ exact_rounded pattern }
 {
     Rounded {

@@ -14,9 +14,9 @@ ghost use Rattle.bench.specs.Kinds.{units};
 ghost use Rattle.bench.specs.Worksheets.{CountCloses, CountLeaves, CountLines};
 
 use crate::desk::Desk;
-use crate::operand::Operand;
+use crate::operand::FinitePattern;
 use crate::refusal::Refusal;
-use crate::whole::{Magnitude, Nonzero};
+use crate::whole::{NonzeroMagnitude, WholeMagnitude};
 use registers::{Finite, Mode, Rounded};
 use sheets::{Closing, fill_quotient};
 use sources::Source;
@@ -42,7 +42,7 @@ fn whole_part(x: Finite) -> u32
 }
 
 /// The whole part of an operand's magnitude.
-fn cut(p: Operand) -> u32
+fn cut(p: FinitePattern) -> u32
     requires { units p.pattern < 2 ^ 24 * 2 ^ 149 }
     ensures { result ≡ units p.pattern / 2 ^ 149 }
 {
@@ -57,7 +57,7 @@ fn toward_zero(closing: Closing) -> Rounded
 }
 
 /// What a quotient leaves of a dividend.
-fn rest_of(m: Magnitude, n: Nonzero, quotient: u32) -> u32
+fn rest_of(m: WholeMagnitude, n: NonzeroMagnitude, quotient: u32) -> u32
     requires { quotient ≡ m.value / n.value }
     ensures { result ≡ m.value % n.value }
 {
@@ -65,27 +65,27 @@ fn rest_of(m: Magnitude, n: Nonzero, quotient: u32) -> u32
 }
 
 /// A dividend and a divisor of these magnitudes. Refused where one is out of range, and else where the divisor is zero.
-fn admit(m: u32, n: u32) -> Result<(Magnitude, Nonzero), Refusal>
+fn admit(m: u32, n: u32) -> Result<(WholeMagnitude, NonzeroMagnitude), Refusal>
     ensures { MatchResult result (λ p. (None ≡ count_refusal m n) × (p.0.value ≡ m) × (p.1.value ≡ n)) (λ e. Some e ≡ count_refusal m n) }
 {
-    let dividend = Magnitude::within(u64::from(m)).ok_or(Refusal::Beyond)?;
-    let divisor = Magnitude::within(u64::from(n)).ok_or(Refusal::Beyond)?;
+    let dividend = WholeMagnitude::within(u64::from(m)).ok_or(Refusal::Beyond)?;
+    let divisor = WholeMagnitude::within(u64::from(n)).ok_or(Refusal::Beyond)?;
     Ok((dividend, divisor.nonzero().ok_or(Refusal::ZeroDivisor)?))
 }
 
 impl<S: Source> Desk<S> {
     /// The quotient of magnitudes other than zero, from their sheet.
-    fn whole_quotient(&mut self, m: Nonzero, n: Nonzero) -> u32
+    fn whole_quotient(&mut self, m: NonzeroMagnitude, n: NonzeroMagnitude) -> u32
         ensures value { result ≡ m.value / n.value }
         ensures sheet { CountCloses (S.Source.reciprocals self.old.source) m.value n.value (values self.new.sheet) result }
         ensures kept { SheetAlone self.old self.new }
     {
         let closing = fill_quotient(&self.source, m.number(), n.number(), &mut self.sheet);
-        cut(Operand::new(toward_zero(closing).pattern))
+        cut(FinitePattern::new(toward_zero(closing).pattern))
     }
 
     /// The quotient of magnitudes. A dividend of zero leaves no line.
-    fn count_magnitudes(&mut self, m: Magnitude, n: Nonzero) -> u32
+    fn count_magnitudes(&mut self, m: WholeMagnitude, n: NonzeroMagnitude) -> u32
         ensures value { result ≡ m.value / n.value }
         ensures sheet { CountLines (S.Source.reciprocals self.old.source) m.value n.value (values self.new.sheet) result }
         ensures kept { SheetAlone self.old self.new }
@@ -108,8 +108,8 @@ impl<S: Source> Desk<S> {
         let whole = self.count_magnitudes(m, n);
         let rest = rest_of(m, n, whole);
         Ok(Counted {
-            quotient: Magnitude::new(whole).signed(a.is_negative() != b.is_negative()),
-            remainder: Magnitude::new(rest).signed(a.is_negative()),
+            quotient: WholeMagnitude::new(whole).signed(a.is_negative() != b.is_negative()),
+            remainder: WholeMagnitude::new(rest).signed(a.is_negative()),
         })
     }
 }

@@ -11,7 +11,7 @@ ghost use Rattle.bench.specs.Worksheets.{DivideLeaves, RootLeaves};
 
 use crate::answer::{Answer, Special};
 use crate::flags::Flags;
-use crate::fuse::fused;
+use crate::fuse::fuse_value;
 use crate::kind::is_subnormal;
 use crate::remainder::remainder;
 use registers::{Mode, Pattern, Rounded};
@@ -56,7 +56,7 @@ impl<S: Source> Desk<S> {
     {
         self.sheet.clear();
         let subnormal = is_subnormal(p) | is_subnormal(q) | is_subnormal(r);
-        self.give(subnormal, fused(mode, p, q, r))
+        self.give(subnormal, fuse_value(mode, p, q, r))
     }
 
     /// `a / b` in a mode. It leaves its sheet.
@@ -75,7 +75,7 @@ impl<S: Source> Desk<S> {
         ensures after { RaisesThere (root_answer mode a).flags self.old self.new }
         ensures sheet { RootLeaves (S.Source.roots self.old.source) mode a (values self.new.sheet) result }
     {
-        let value = self.rooted(mode, a);
+        let value = self.root_value(mode, a);
         self.give(is_subnormal(a), value)
     }
 

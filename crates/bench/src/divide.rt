@@ -9,13 +9,13 @@ ghost use Rattle.sheets.specs.Quotients.{QuotientSheet};
 ghost use Rattle.sheets.specs.Written.{values};
 ghost use Rattle.bench.specs.Desks.{SheetAlone};
 ghost use Rattle.bench.specs.Kinds.{signs_differ, units};
-ghost use Rattle.bench.specs.Tables.{divide_table, given_out};
+ghost use Rattle.bench.specs.Tables.{divide_table, pattern_of};
 ghost use Rattle.bench.specs.Unless.{unless};
 ghost use Rattle.bench.specs.Worksheets.{Closes, DivideLeaves};
 
 use crate::answer::Special;
 use crate::desk::Desk;
-use crate::operand::Operand;
+use crate::operand::FinitePattern;
 use crate::table::divide_table;
 use registers::{Finite, Mode, Pattern, Rounded};
 use sheets::fill_quotient;
@@ -41,11 +41,15 @@ impl<S: Source> Desk<S> {
         b: Pattern,
     ) -> Result<Rounded, Special>
         ensures value { result ≡ unless (divide_table a b) (rounded mode (signs_differ a b) (beside_quotient (units a) (units b))) }
-        ensures sheet { DivideLeaves (S.Source.reciprocals self.old.source) mode a b (values self.new.sheet) (given_out result) }
+        ensures sheet { DivideLeaves (S.Source.reciprocals self.old.source) mode a b (values self.new.sheet) (pattern_of result) }
         ensures kept { SheetAlone self.old self.new }
     {
         self.sheet.clear();
         divide_table(a, b)?;
-        Ok(self.divide_exact(mode, Operand::new(a).nonzero(), Operand::new(b).nonzero()))
+        Ok(self.divide_exact(
+            mode,
+            FinitePattern::new(a).nonzero(),
+            FinitePattern::new(b).nonzero(),
+        ))
     }
 }

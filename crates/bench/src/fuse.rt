@@ -6,9 +6,9 @@ ghost use Rattle.bench.specs.Tables.{fuse_table};
 ghost use Rattle.bench.specs.Unless.{unless};
 ghost use Rattle.bench.specs.Values.{beside_exact, fuse_sign, fuse_size, zero_sign};
 
-use crate::answer::{Special, exact};
+use crate::answer::{Special, exact_rounding};
 use crate::kind::{is_negative, signs_differ, zero};
-use crate::operand::Operand;
+use crate::operand::FinitePattern;
 use crate::table::fuse_table;
 use registers::{Choice, FusedSum, Mode, Pattern, Rounded};
 
@@ -21,7 +21,7 @@ fn zero_sign(mode: Mode, s: bool, t: bool) -> bool
 
 // Operands one by one, here and below: a struct of them would be made once and taken apart once.
 /// The exact sum of operands, rounded once.
-fn fuse_exact(mode: Mode, p: Operand, q: Operand, r: Operand) -> Rounded
+fn fuse_exact(mode: Mode, p: FinitePattern, q: FinitePattern, r: FinitePattern) -> Rounded
     ensures { result ≡ rounded mode (fuse_sign mode p.pattern q.pattern r.pattern) (beside_exact (fuse_size p.pattern q.pattern r.pattern * 2 ^ 26)) }
 {
     let sum = FusedSum {
@@ -34,15 +34,20 @@ fn fuse_exact(mode: Mode, p: Operand, q: Operand, r: Operand) -> Rounded
         Some(value) => value,
         None => {
             let product = signs_differ(p.pattern, q.pattern);
-            exact(zero(zero_sign(mode, is_negative(r.pattern), product)))
+            exact_rounding(zero(zero_sign(mode, is_negative(r.pattern), product)))
         }
     }
 }
 
 /// The value of `p·q + r`, rounded in a mode, or what its table makes of special operands.
-pub(crate) fn fused(mode: Mode, p: Pattern, q: Pattern, r: Pattern) -> Result<Rounded, Special>
+pub(crate) fn fuse_value(mode: Mode, p: Pattern, q: Pattern, r: Pattern) -> Result<Rounded, Special>
     ensures { result ≡ unless (fuse_table p q r) (rounded mode (fuse_sign mode p q r) (beside_exact (fuse_size p q r * 2 ^ 26))) }
 {
     fuse_table(p, q, r)?;
-    Ok(fuse_exact(mode, Operand::new(p), Operand::new(q), Operand::new(r)))
+    Ok(fuse_exact(
+        mode,
+        FinitePattern::new(p),
+        FinitePattern::new(q),
+        FinitePattern::new(r),
+    ))
 }

@@ -9,18 +9,18 @@ use registers::{Datum, Finite, Pattern, Register};
 
 /// An operand that no row of a table decides: a finite pattern.
 #[derive(Clone, Copy)]
-pub(crate) struct Operand {
+pub(crate) struct FinitePattern {
     pub(crate) pattern: Pattern,
     ghost finite: { unsigned pattern < 0x7F800000 },
 }
 
-impl Operand {
+impl FinitePattern {
     /// The operand of a finite pattern.
-    pub(crate) fn new(pattern: Pattern) -> Operand
+    pub(crate) fn new(pattern: Pattern) -> FinitePattern
         requires { unsigned pattern < 0x7F800000 }
         ensures { result.pattern ≡ pattern }
     {
-        Operand { pattern }
+        FinitePattern { pattern }
     }
 
     /// The number that it stands for, or nothing where that is zero.

@@ -7,20 +7,20 @@ ghost use Rattle.registers.specs.Modes.{rounded};
 ghost use Rattle.sheets.specs.Operands.{units_of};
 ghost use Rattle.bench.specs.Kinds.{is_negative, units, unsigned};
 ghost use Rattle.bench.specs.Remainders.{IsNearestQuotient, remainder_size, remainder_turned};
-ghost use Rattle.bench.specs.Tables.{given_out, remainder_table};
+ghost use Rattle.bench.specs.Tables.{pattern_of, remainder_table};
 ghost use Rattle.bench.specs.Unless.{unless};
 ghost use Rattle.bench.specs.Values.{ExactRemainder, beside_exact, remainder_sign, remainder_units};
 
-use crate::answer::{Special, exact};
+use crate::answer::{Special, exact_rounding};
 use crate::kind::is_negative;
-use crate::operand::Operand;
+use crate::operand::FinitePattern;
 use crate::scaled::Scaled;
 use crate::table::remainder_table;
 use registers::{Datum, Finite, Mode, Pattern, Rounded};
 use std::cmp::Ordering;
 
 /// The magnitude of an operand.
-fn magnitude_of(p: Operand) -> Scaled
+fn magnitude_of(p: FinitePattern) -> Scaled
     ensures { result.significand * 2 ^ result.exponent ≡ units p.pattern }
 {
     let Some(x) = p.number() else {
@@ -128,7 +128,7 @@ fn remainder_scaled(x: Scaled, y: Finite) -> Difference
 
 // Two operands, one by one: a struct of them would be made once and taken apart once.
 /// The remainder of operands, exactly.
-fn remainder_exact(x: Operand, y: Operand) -> Datum
+fn remainder_exact(x: FinitePattern, y: FinitePattern) -> Datum
     requires { 0 < unsigned y.pattern }
     ensures { denoted result ≡ finite (remainder_sign x.pattern y.pattern) (remainder_units x.pattern y.pattern) }
 {
@@ -137,19 +137,20 @@ fn remainder_exact(x: Operand, y: Operand) -> Datum
 }
 
 /// A finite number rounded in any mode: it is its own pattern, with no flag.
-fn exactly(x: Datum) -> Rounded
+fn round_datum(x: Datum) -> Rounded
     ensures rounds { (mode : Mode) (s : Bool) (v : ℕ) → denoted x ≡ finite s v → result ≡ rounded mode s (beside_exact (v * 2 ^ 175)) }
     ensures parts { (s : Bool) (v : ℕ) → denoted x ≡ finite s v → (units result.pattern ≡ v) × (is_negative result.pattern ≡ s) }
 {
-    exact(x.encode())
+    exact_rounding(x.encode())
 }
 
 /// The remainder of `x` by `y`, which is the same in every mode, or what its table makes of special operands.
+#[tactic(auto, using(crate::proofs::Nearing::nearest_quotient_lem))]
 pub(crate) fn remainder(x: Pattern, y: Pattern) -> Result<Rounded, Special>
     ensures value { (mode : Mode) → result ≡ unless (remainder_table x y) (rounded mode (remainder_sign x y) (beside_exact (remainder_units x y * 2 ^ 175))) }
-    ensures exact { ExactRemainder x y (given_out result) }
+    ensures exact { ExactRemainder x y (pattern_of result) }
     ensures nearest { IsNearestQuotient }
 {
     remainder_table(x, y)?;
-    Ok(exactly(remainder_exact(Operand::new(x), Operand::new(y))))
+    Ok(round_datum(remainder_exact(FinitePattern::new(x), FinitePattern::new(y))))
 }

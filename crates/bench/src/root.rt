@@ -8,13 +8,13 @@ ghost use Rattle.sheets.specs.Roots.{RootSheet};
 ghost use Rattle.sheets.specs.Written.{values};
 ghost use Rattle.bench.specs.Desks.{SheetAlone};
 ghost use Rattle.bench.specs.Kinds.{units};
-ghost use Rattle.bench.specs.Tables.{given_out, root_table};
+ghost use Rattle.bench.specs.Tables.{pattern_of, root_table};
 ghost use Rattle.bench.specs.Unless.{unless};
 ghost use Rattle.bench.specs.Worksheets.{Closes, RootLeaves};
 
 use crate::answer::Special;
 use crate::desk::Desk;
-use crate::operand::Operand;
+use crate::operand::FinitePattern;
 use crate::table::root_table;
 use registers::{Finite, Mode, Pattern, Rounded};
 use sheets::fill_root;
@@ -32,13 +32,13 @@ impl<S: Source> Desk<S> {
     }
 
     /// The root of `a`, rounded in a mode, or what its table makes of a special operand, which leaves no line.
-    pub(crate) fn rooted(&mut self, mode: Mode, a: Pattern) -> Result<Rounded, Special>
+    pub(crate) fn root_value(&mut self, mode: Mode, a: Pattern) -> Result<Rounded, Special>
         ensures value { result ≡ unless (root_table a) (rounded mode false (beside_root (units a))) }
-        ensures sheet { RootLeaves (S.Source.roots self.old.source) mode a (values self.new.sheet) (given_out result) }
+        ensures sheet { RootLeaves (S.Source.roots self.old.source) mode a (values self.new.sheet) (pattern_of result) }
         ensures kept { SheetAlone self.old self.new }
     {
         self.sheet.clear();
         root_table(a)?;
-        Ok(self.root_exact(mode, Operand::new(a).nonzero()))
+        Ok(self.root_exact(mode, FinitePattern::new(a).nonzero()))
     }
 }

@@ -18,6 +18,9 @@ impl Scaled {
     pub(crate) fn datum(self, negative: bool) -> Datum
         ensures { denoted result ≡ finite negative (self.significand * 2 ^ self.exponent) }
     {
-        Finite::new(negative, self.significand, self.exponent).map_or(Datum::Zero { negative }, Datum::Finite)
+        Finite::new(negative, self.significand, self.exponent).map_or(
+            Datum::Zero { negative },
+            Datum::Finite,
+        )
     }
 }

@@ -15,38 +15,38 @@ const GREATEST: u32 = 16_777_215;
 
 /// The magnitude of a whole number within ±16,777,215.
 #[derive(Clone, Copy)]
-pub(crate) struct Magnitude {
+pub(crate) struct WholeMagnitude {
     pub(crate) value: u32,
     ghost few: { value < 2 ^ 24 },
 }
 
-impl Magnitude {
+impl WholeMagnitude {
     /// The magnitude of this value, or nothing where 24 bits do not hold it.
-    pub(crate) fn within(n: u64) -> Option<Magnitude>
+    pub(crate) fn within(n: u64) -> Option<WholeMagnitude>
         ensures { MatchOption result (greatest < n) (λ m. (n ≤ greatest) × (m.value ≡ n)) }
     {
         if n > u64::from(GREATEST) {
             return None;
         }
-        Some(Magnitude { value: n as u32 })
+        Some(WholeMagnitude { value: n as u32 })
     }
 
     /// The magnitude of this value.
-    pub(crate) fn new(value: u32) -> Magnitude
+    pub(crate) fn new(value: u32) -> WholeMagnitude
         requires { value < 2 ^ 24 }
         ensures { result.value ≡ value }
     {
-        Magnitude { value }
+        WholeMagnitude { value }
     }
 
     /// This magnitude as one that is not zero, or nothing where it is.
-    pub(crate) fn nonzero(self) -> Option<Nonzero>
+    pub(crate) fn nonzero(self) -> Option<NonzeroMagnitude>
         ensures { MatchOption result (self.value ≡ 0) (λ n. n.value ≡ self.value) }
     {
         if self.value == 0 {
             return None;
         }
-        Some(Nonzero { value: self.value })
+        Some(NonzeroMagnitude { value: self.value })
     }
 
     /// The pattern of a sign and this magnitude.
@@ -71,12 +71,12 @@ impl Magnitude {
 
 /// A magnitude other than zero.
 #[derive(Clone, Copy)]
-pub(crate) struct Nonzero {
+pub(crate) struct NonzeroMagnitude {
     pub(crate) value: u32,
     ghost form: { (0 < value) × (value < 2 ^ 24) },
 }
 
-impl Nonzero {
+impl NonzeroMagnitude {
     /// The number of plus and this magnitude.
     pub(crate) fn number(self) -> Finite
         ensures { units_of result ≡ self.value * 2 ^ 149 }
@@ -89,6 +89,6 @@ impl Nonzero {
 pub fn whole_pattern(n: i64) -> Option<Pattern>
     ensures { MatchOption result (greatest < unsigned_abs n) (λ p. (unsigned_abs n ≤ greatest) × (p ≡ whole_pattern n)) }
 {
-    let magnitude = Magnitude::within(n.unsigned_abs())?;
+    let magnitude = WholeMagnitude::within(n.unsigned_abs())?;
     Some(magnitude.pattern(n.is_negative()))
 }

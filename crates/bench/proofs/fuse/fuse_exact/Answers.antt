@@ -19,7 +19,7 @@ returns-in-None c =
     let p = c.register-2.ensures in
     let q = c.register-3.ensures in
     let r = c.register.ensures in
-    c.exact.ensures ∙ ap exact_rounded c.zero.ensures
+    c.exact_rounding.ensures ∙ ap exact_rounded c.zero.ensures
     ∙ ap zero_rounded (c.zero_sign.ensures ∙ ap (λ (s : Bool). zero_sign c.args.mode s c.signs_differ-product.result) c.is_negative.ensures ∙ ap (zero_sign c.args.mode (is_negative c.args.r.pattern)) c.signs_differ-product.ensures)
     ∙ fuse_none c.args.p.pattern c.args.q.pattern c.args.r.pattern (value c.register-2.result) (value c.register-3.result) (value c.register.result)
     (record { size = p.size; sign = p.sign }) (record { size = q.size; sign = q.sign }) (record { size = r.size; sign = r.sign })

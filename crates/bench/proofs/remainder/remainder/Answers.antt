@@ -1,22 +1,15 @@
 use Rattle.std.proofs.Common.{◌<◌, subst, sym}
 use Rattle.registers.specs.declared.pattern.Pattern.{Pattern}
 use Rattle.bench.specs.Kinds.{unsigned}
-use Rattle.bench.proofs.Nearing.{nearest_quotient_lem}
-use Rattle.bench.proofs.Verdicts.{remainder_operands, undecided}
+use Rattle.bench.proofs.Verdicts.{remainder_operands}
 use Rattle.bench.proofs.remainder.remainder.Goals as goal
 
-pub returns-in_err-remainder_table-clause-nearest : goal.returns-in_err-remainder_table-clause-nearest
-returns-in_err-remainder_table-clause-nearest c = nearest_quotient_lem
-
 pub new-requires : goal.new-requires
-new-requires c = (remainder_operands c.args.x c.args.y (undecided _ _ _ c.in_ok-remainder_table.ensures)).0
+new-requires c = (remainder_operands c.args.x c.args.y _ _ c.in_ok-remainder_table.ensures).0
 
 pub new-requires-2 : goal.new-requires-2
-new-requires-2 c = (remainder_operands c.args.x c.args.y (undecided _ _ _ c.in_ok-remainder_table.ensures)).1
+new-requires-2 c = (remainder_operands c.args.x c.args.y _ _ c.in_ok-remainder_table.ensures).1
 
 pub remainder_exact-requires : goal.remainder_exact-requires
 remainder_exact-requires c =
-    subst (λ (p : Pattern). 0 < unsigned p) (sym c.new-2.ensures) (remainder_operands c.args.x c.args.y (undecided _ _ _ c.in_ok-remainder_table.ensures)).2
-
-pub returns-clause-nearest : goal.returns-clause-nearest
-returns-clause-nearest c = nearest_quotient_lem
+    subst (λ (p : Pattern). 0 < unsigned p) (sym c.new-2.ensures) (remainder_operands c.args.x c.args.y _ _ c.in_ok-remainder_table.ensures).2

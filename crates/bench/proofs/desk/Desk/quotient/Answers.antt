@@ -6,16 +6,16 @@ use Rattle.bench.proofs.Verdicts.{by_value, divide_operands, undecided}
 use Rattle.bench.proofs.desk.Desk.quotient.Goals as goal
 
 pub new-requires : goal.new-requires
-new-requires g c = (divide_operands c.args.a c.args.b (undecided _ _ _ c.in_ok-divide_table.ensures)).0
+new-requires g c = (divide_operands c.args.a c.args.b _ _ c.in_ok-divide_table.ensures).0
 
 pub nonzero-requires : goal.nonzero-requires
-nonzero-requires g c = subst (λ (p : Pattern). 0 < unsigned p) (sym c.new.ensures) (divide_operands c.args.a c.args.b (undecided _ _ _ c.in_ok-divide_table.ensures)).2
+nonzero-requires g c = subst (λ (p : Pattern). 0 < unsigned p) (sym c.new.ensures) (divide_operands c.args.a c.args.b _ _ c.in_ok-divide_table.ensures).2
 
 pub new-requires-2 : goal.new-requires-2
-new-requires-2 g c = (divide_operands c.args.a c.args.b (undecided _ _ _ c.in_ok-divide_table.ensures)).1
+new-requires-2 g c = (divide_operands c.args.a c.args.b _ _ c.in_ok-divide_table.ensures).1
 
 pub nonzero-requires-2 : goal.nonzero-requires-2
-nonzero-requires-2 g c = subst (λ (p : Pattern). 0 < unsigned p) (sym c.new-2.ensures) (divide_operands c.args.a c.args.b (undecided _ _ _ c.in_ok-divide_table.ensures)).3
+nonzero-requires-2 g c = subst (λ (p : Pattern). 0 < unsigned p) (sym c.new-2.ensures) (divide_operands c.args.a c.args.b _ _ c.in_ok-divide_table.ensures).3
 
 pub returns-clause-value : goal.returns-clause-value
 returns-clause-value g c =

@@ -7,10 +7,10 @@ use Rattle.bench.proofs.desk.Desk.root.Goals as goal
 
 pub returns-clause-answer : goal.returns-clause-answer
 unfolding root_answer
-returns-clause-answer g c = c.give.ensures.pattern ∙ ap (λ (a : Answer). a.pattern) (answered_is _ _ _ _ _ c.is_subnormal.ensures c.rooted-value.ensures.value)
+returns-clause-answer g c = c.give.ensures.pattern ∙ ap (λ (a : Answer). a.pattern) (answered_is _ _ _ _ _ c.is_subnormal.ensures c.root_value-value.ensures.value)
 
 pub returns-clause-after : goal.returns-clause-after
 unfolding root_answer
 returns-clause-after g c =
-    raises_as _ _ _ _ _ (ap (λ (a : Answer). a.flags) (answered_is _ _ _ _ _ c.is_subnormal.ensures c.rooted-value.ensures.value))
-    c.rooted-value.ensures.kept.flags c.rooted-value.ensures.kept.origin c.give.ensures.after
+    raises_as _ _ _ _ _ (ap (λ (a : Answer). a.flags) (answered_is _ _ _ _ _ c.is_subnormal.ensures c.root_value-value.ensures.value))
+    c.root_value-value.ensures.kept.flags c.root_value-value.ensures.kept.origin c.give.ensures.after

@@ -8,7 +8,7 @@ use Rattle.registers.specs.Range.{bias}
 use Rattle.registers.specs.Values.{Value, finite_value, value}
 use Rattle.bench.specs.Kinds.{Stands, is_negative, units, unsigned}
 use Rattle.bench.proofs.Decoded.{zero_units}
-use Rattle.bench.proofs.operand.Operand.register.Goals as goal
+use Rattle.bench.proofs.operand.FinitePattern.register.Goals as goal
 
 -- a number's register number where there is one, and else zero
 either : (p : Pattern) (o : Option Finite) (r : Register) → MatchOption o (unsigned p ≡ 0) (λ x. Stands x p) → MatchOption o (r ≡ Zero) (λ x. value r ≡ finite_value x) → ((value r).units ≡ units p * 2 ^ (bias - 149)) × (0 < units p → (value r).negative ≡ is_negative p)

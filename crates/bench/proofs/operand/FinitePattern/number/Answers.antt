@@ -1,5 +1,5 @@
 use Rattle.bench.proofs.Decoded.{is_zero, stands}
-use Rattle.bench.proofs.operand.Operand.number.Goals as goal
+use Rattle.bench.proofs.operand.FinitePattern.number.Goals as goal
 
 pub returns-in-Finite : goal.returns-in-Finite
 returns-in-Finite c = stands c.args.self.pattern c.args.self.finite c.in-Finite.x c.in-Finite.ensures.value
