@@ -2,7 +2,6 @@
 
 use registers::Pattern;
 use words::hex::pattern;
-use words::split::Words;
 use words::whole::{signed, unsigned};
 
 /// A call or a question.
@@ -19,36 +18,35 @@ pub enum Command {
     Last,
 }
 
-/// The pattern that the next word writes.
-fn next_pattern(words: &mut Words) -> Option<Pattern> {
-    words.next().and_then(pattern)
-}
-
-/// The command that the first words write, or none; words may be left.
-fn command_before(words: &mut Words) -> Option<Command> {
-    match words.next()? {
-        b"mode" => Some(Command::Mode(unsigned(words.next()?)?)),
-        b"clear" => Some(Command::Clear),
-        b"fuse" => {
-            Some(Command::Fuse(
-                next_pattern(words)?,
-                next_pattern(words)?,
-                next_pattern(words)?,
-            ))
-        }
-        b"divide" => Some(Command::Divide(next_pattern(words)?, next_pattern(words)?)),
-        b"root" => Some(Command::Root(next_pattern(words)?)),
-        b"remainder" => Some(Command::Remainder(next_pattern(words)?, next_pattern(words)?)),
-        b"count" => Some(Command::Count(signed(words.next()?)?, signed(words.next()?)?)),
-        b"line" => Some(Command::Line(unsigned(words.next()?)?)),
-        b"last" => Some(Command::Last),
+/// The command that a line writes, or none. A fifth word is one too many for each command.
+pub fn command_of(line: &[u8]) -> Option<Command> {
+    let mut words = line.split(|byte| *byte == b' ');
+    match (
+        words.next()?,
+        words.next(),
+        words.next(),
+        words.next(),
+        words.next(),
+    ) {
+        (b"mode", Some(n), None, None, None) => Some(Command::Mode(unsigned(n)?)),
+        (b"clear", None, None, None, None) => Some(Command::Clear),
+        (b"fuse", Some(p), Some(q), Some(r), None) => Some(Command::Fuse(
+            pattern(p)?,
+            pattern(q)?,
+            pattern(r)?,
+        )),
+        (b"divide", Some(a), Some(b), None, None) => Some(Command::Divide(
+            pattern(a)?,
+            pattern(b)?,
+        )),
+        (b"root", Some(a), None, None, None) => Some(Command::Root(pattern(a)?)),
+        (b"remainder", Some(x), Some(y), None, None) => Some(Command::Remainder(
+            pattern(x)?,
+            pattern(y)?,
+        )),
+        (b"count", Some(a), Some(b), None, None) => Some(Command::Count(signed(a)?, signed(b)?)),
+        (b"line", Some(n), None, None, None) => Some(Command::Line(unsigned(n)?)),
+        (b"last", None, None, None, None) => Some(Command::Last),
         _ => None,
     }
-}
-
-/// The command that a line writes, or none.
-pub fn command_of(line: &[u8]) -> Option<Command> {
-    let mut words = Words::new(line);
-    let command = command_before(&mut words)?;
-    words.next().is_none().then_some(command)
 }
