@@ -10,7 +10,7 @@ use crate::next::is_ended;
 use crate::refusal::{Cause, Fault, Refusal};
 
 /// A plan line cut into its columns, which are parts of the line.
-#[derive(Clone, Copy)]
+#[derive(Clone, Copy, PartialEq, Eq, Debug)]
 pub enum Line<'a> {
     Datum {
         x: &'a [u8],
