@@ -84,5 +84,5 @@ answered subnormal (Ok v) = rounded_answer subnormal v
 answered subnormal (Err special) = special_answer subnormal special
 
 -- the pattern of the answer, which does not turn on whether an operand is subnormal
-abbrev pub pattern_of : Result Rounded Special → Pattern
-pattern_of r = (answered false r).pattern
+abbrev pub answer_pattern : Result Rounded Special → Pattern
+answer_pattern r = (answered false r).pattern

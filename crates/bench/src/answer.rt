@@ -97,6 +97,7 @@ impl Answer {
         }
     }
 
+    // A match: each variant makes its answer, and two closures would be no plainer.
     /// The answer to a call, from its rounded value or from the row of its table that decides.
     pub(crate) fn new(subnormal: bool, value: Result<Rounded, Special>) -> Answer
         ensures { result ≡ answered subnormal value }

@@ -64,6 +64,7 @@ fn rest_of(m: WholeMagnitude, n: NonzeroMagnitude, quotient: u32) -> u32
     m.value - quotient * n.value
 }
 
+// A dividend and a divisor, one by one, here and below: a struct of them would be made once and taken apart once.
 /// A dividend and a divisor of these magnitudes. Refused where one is out of range, and else where the divisor is zero.
 fn admit(m: u32, n: u32) -> Result<(WholeMagnitude, NonzeroMagnitude), Refusal>
     ensures { MatchResult result (λ p. (None ≡ count_refusal m n) × (p.0.value ≡ m) × (p.1.value ≡ n)) (λ e. Some e ≡ count_refusal m n) }

@@ -9,7 +9,7 @@ ghost use Rattle.sheets.specs.Quotients.{QuotientSheet};
 ghost use Rattle.sheets.specs.Written.{values};
 ghost use Rattle.bench.specs.Desks.{SheetAlone};
 ghost use Rattle.bench.specs.Kinds.{signs_differ, units};
-ghost use Rattle.bench.specs.Tables.{divide_table, pattern_of};
+ghost use Rattle.bench.specs.Tables.{divide_table, answer_pattern};
 ghost use Rattle.bench.specs.Unless.{unless};
 ghost use Rattle.bench.specs.Worksheets.{Closes, DivideLeaves};
 
@@ -41,7 +41,7 @@ impl<S: Source> Desk<S> {
         b: Pattern,
     ) -> Result<Rounded, Special>
         ensures value { result ≡ unless (divide_table a b) (rounded mode (signs_differ a b) (beside_quotient (units a) (units b))) }
-        ensures sheet { DivideLeaves (S.Source.reciprocals self.old.source) mode a b (values self.new.sheet) (pattern_of result) }
+        ensures sheet { DivideLeaves (S.Source.reciprocals self.old.source) mode a b (values self.new.sheet) (answer_pattern result) }
         ensures kept { SheetAlone self.old self.new }
     {
         self.sheet.clear();

@@ -30,6 +30,7 @@ fn fuse_exact(mode: Mode, p: FinitePattern, q: FinitePattern, r: FinitePattern) 
         p: p.register(),
         q: q.register(),
     };
+    // A match: a zero takes two steps, and a closure of them would be no plainer.
     match sum.round(mode) {
         Some(value) => value,
         None => {

@@ -7,7 +7,7 @@ ghost use Rattle.registers.specs.Modes.{rounded};
 ghost use Rattle.sheets.specs.Operands.{units_of};
 ghost use Rattle.bench.specs.Kinds.{is_negative, units, unsigned};
 ghost use Rattle.bench.specs.Remainders.{IsNearestQuotient, remainder_size, remainder_turned};
-ghost use Rattle.bench.specs.Tables.{pattern_of, remainder_table};
+ghost use Rattle.bench.specs.Tables.{answer_pattern, remainder_table};
 ghost use Rattle.bench.specs.Unless.{unless};
 ghost use Rattle.bench.specs.Values.{ExactRemainder, beside_exact, remainder_sign, remainder_units};
 
@@ -148,7 +148,7 @@ fn round_datum(x: Datum) -> Rounded
 #[tactic(auto, using(crate::proofs::Nearing::nearest_quotient_lem))]
 pub(crate) fn remainder(x: Pattern, y: Pattern) -> Result<Rounded, Special>
     ensures value { (mode : Mode) → result ≡ unless (remainder_table x y) (rounded mode (remainder_sign x y) (beside_exact (remainder_units x y * 2 ^ 175))) }
-    ensures exact { ExactRemainder x y (pattern_of result) }
+    ensures exact { ExactRemainder x y (answer_pattern result) }
     ensures nearest { IsNearestQuotient }
 {
     remainder_table(x, y)?;

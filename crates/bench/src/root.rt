@@ -8,7 +8,7 @@ ghost use Rattle.sheets.specs.Roots.{RootSheet};
 ghost use Rattle.sheets.specs.Written.{values};
 ghost use Rattle.bench.specs.Desks.{SheetAlone};
 ghost use Rattle.bench.specs.Kinds.{units};
-ghost use Rattle.bench.specs.Tables.{pattern_of, root_table};
+ghost use Rattle.bench.specs.Tables.{answer_pattern, root_table};
 ghost use Rattle.bench.specs.Unless.{unless};
 ghost use Rattle.bench.specs.Worksheets.{Closes, RootLeaves};
 
@@ -34,7 +34,7 @@ impl<S: Source> Desk<S> {
     /// The root of `a`, rounded in a mode, or what its table makes of a special operand, which leaves no line.
     pub(crate) fn root_value(&mut self, mode: Mode, a: Pattern) -> Result<Rounded, Special>
         ensures value { result ≡ unless (root_table a) (rounded mode false (beside_root (units a))) }
-        ensures sheet { RootLeaves (S.Source.roots self.old.source) mode a (values self.new.sheet) (pattern_of result) }
+        ensures sheet { RootLeaves (S.Source.roots self.old.source) mode a (values self.new.sheet) (answer_pattern result) }
         ensures kept { SheetAlone self.old self.new }
     {
         self.sheet.clear();
