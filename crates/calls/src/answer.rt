@@ -6,7 +6,7 @@ use sources::Source;
 use std::fmt;
 
 /// The answer to a line of a call list.
-#[derive(Clone, Copy)]
+#[derive(Clone, Copy, PartialEq, Eq, Debug)]
 pub enum Answer {
     /// A call that gives nothing is done.
     Done,
@@ -21,7 +21,7 @@ pub enum Answer {
 }
 
 /// The mode, the flags and the number of lines that stand.
-#[derive(Clone, Copy)]
+#[derive(Clone, Copy, PartialEq, Eq, Debug)]
 pub struct State {
     mode: Mode,
     flags: Flags,
