@@ -40,21 +40,9 @@ narrowed_has : (z : ℤ) → has Digits (narrowed z) ≡ false
 unfolding outside
 narrowed_has z = has_digits_by z (outside z)
 
-pub digits_ok : (byte : ℕ) (o : Option ℤ) (z : ℤ) → digits_at byte o ≡ Ok z → o ≡ Some z
-digits_ok byte None z e = absurd cc
-digits_ok byte (Some y) z e = let s : y ≡ z = cc in ap Some s
-
 pub digits_err : (byte : ℕ) (o : Option ℤ) (fault : Fault) → digits_at byte o ≡ Err fault → (o ≡ None) × (fault ≡ at_byte byte Digits)
 digits_err byte None fault e = (refl, cc)
 digits_err byte (Some y) fault e = absurd cc
-
-ok_by : (v : Bool) (byte : ℕ) (y z : ℤ) → range_at byte (cond v (Err Range) (Ok y)) ≡ Ok z → cond v (Err Range) (Ok y) ≡ Ok z
-ok_by true byte y z e = absurd cc
-ok_by false byte y z e = let s : y ≡ z = cc in ap Ok s
-
-pub narrow_ok : (byte : ℕ) (y z : ℤ) → narrow_at byte y ≡ Ok z → narrowed y ≡ Ok z
-unfolding outside
-narrow_ok byte y z e = ok_by (outside y) byte y z e
 
 err_by : (v : Bool) (byte : ℕ) (y : ℤ) (fault : Fault) → range_at byte (cond v (Err Range) (Ok y)) ≡ Err fault →
     (cond v (Err Range) (Ok y) ≡ Err Range) × (fault ≡ at_byte byte Range)
