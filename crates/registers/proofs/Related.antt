@@ -10,7 +10,7 @@ use Rattle.registers.specs.Range.{bias, span}
 use Rattle.registers.specs.Values.{Value}
 use Rattle.registers.specs.declared.register.Choice.{Choice}
 use Rattle.registers.specs.Laws.{Rounds, Bits}
-use Rattle.registers.specs.Lines.{Sum, FusedLine}
+use Rattle.registers.specs.Lines.{Sum, ExactSum, FusedLine}
 use Rattle.registers.proofs.Spacing.{Rounded, order, raise}
 use Rattle.registers.proofs.Near.{Near}
 use Rattle.registers.proofs.Lawful.{rounds, rounds_short, rounds_closest, unique}
@@ -26,6 +26,14 @@ rounded_of k n v r h = record { near = near; bits = rounds_short k n v r h; clos
         subst (Near (2 ^ k) n) e ((nearest_error k n).1, (nearest_error k n).0)
 
 -- ---- the exact sum
+
+-- no proof cites it; it stands because no other fact states it
+pub exact_of : (t : Bool) (a b : ℕ) → ExactSum false a t b (sum_sign false a t b) (sum_size false a t b)
+exact_of false a b = record { sum = omega arith; plain = λ e. refl }
+exact_of true a b = elim (cases_lt a b) [
+  | inl h ↦ record { sum = rw (lt-ltb a b h) (omega arith); plain = λ e. absurd (omega (arith, rw (lt-ltb a b h) at e)) }
+  | inr h ↦ record { sum = rw (le-ltb a b h) (omega arith); plain = λ e. rw (le-ltb a b h) refl }
+]
 
 pub sum_of : (s : Bool) (a : ℕ) (t : Bool) (b : ℕ) → Sum s a t b (sum_sign s a t b) (sum_size s a t b)
 sum_of false a false b = omega arith
