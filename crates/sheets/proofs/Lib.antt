@@ -21,6 +21,7 @@ pub mod Sizes
 pub mod Stepped
 pub mod Scales
 pub mod Placing
+pub mod Pages
 pub mod QuotientChain
 pub mod Decoding
 pub mod Starting

@@ -1,6 +1,6 @@
 //! Writing a sheet and asking it.
 
-ghost use Rattle.std.specs.Prelude.{◌≡◌, ◌≤◌, [], length};
+ghost use Rattle.std.specs.Prelude.{◌≡◌, ◌≤◌, ◌<◌, [], ◌∷◌, ◌++◌, length};
 ghost use Rattle.sheets.specs.Written.{last_of, line_at, written};
 
 use crate::refusal::Refusal;
@@ -25,16 +25,25 @@ impl Sheet {
         self.used = 0;
     }
 
+    /// Writes one line more.
+    fn write(&mut self, line: Register)
+        requires { length (written self.old) < 11 }
+        ensures { written self.new ≡ written self.old ++ (line ∷ []) }
+    {
+        self.lines[self.used] = line;
+        self.used += 1;
+    }
+
     /// Writes these lines, and no other.
+    // One by one, and no copy of a table: for that the compiler would call the C library, which nothing else here needs.
     pub(crate) fn fill(&mut self, lines: &[Register])
         requires { length lines.now ≤ 11 }
         ensures { written self.new ≡ lines.now }
     {
-        // Through a copy of the table: the check does not yet lend this field, which stands beside ghost fields, for writing.
-        let mut table = self.lines;
-        table[..lines.len()].copy_from_slice(lines);
-        self.lines = table;
-        self.used = lines.len();
+        self.clear();
+        for line in lines {
+            self.write(*line);
+        }
     }
 
     /// The lines that are written, the first one first.
