@@ -2,6 +2,7 @@
 
 use registers::Pattern;
 use words::hex::pattern;
+use words::split::Words;
 use words::whole::{signed, unsigned};
 
 /// A call or a question.
@@ -18,35 +19,31 @@ pub enum Command {
     Last,
 }
 
-/// The command that a line writes, or none. A fifth word is one too many for each command.
+/// The pattern that the next word writes.
+fn next_pattern(words: &mut Words<'_>) -> Option<Pattern> {
+    pattern(words.next()?)
+}
+
+/// The command that a line writes, or none. What is left of the line is the last operand: one with a blank in it reads as none.
 pub fn command_of(line: &[u8]) -> Option<Command> {
-    let mut words = line.split(|byte| *byte == b' ');
-    match (
-        words.next()?,
-        words.next(),
-        words.next(),
-        words.next(),
-        words.next(),
-    ) {
-        (b"mode", Some(n), None, None, None) => Some(Command::Mode(unsigned(n)?)),
-        (b"clear", None, None, None, None) => Some(Command::Clear),
-        (b"fuse", Some(p), Some(q), Some(r), None) => Some(Command::Fuse(
-            pattern(p)?,
-            pattern(q)?,
-            pattern(r)?,
+    let mut words = Words::new(line);
+    match words.next()? {
+        b"mode" => Some(Command::Mode(unsigned(words.rest()?)?)),
+        b"clear" if words.rest().is_none() => Some(Command::Clear),
+        b"fuse" => Some(Command::Fuse(
+            next_pattern(&mut words)?,
+            next_pattern(&mut words)?,
+            pattern(words.rest()?)?,
         )),
-        (b"divide", Some(a), Some(b), None, None) => Some(Command::Divide(
-            pattern(a)?,
-            pattern(b)?,
+        b"divide" => Some(Command::Divide(next_pattern(&mut words)?, pattern(words.rest()?)?)),
+        b"root" => Some(Command::Root(pattern(words.rest()?)?)),
+        b"remainder" => Some(Command::Remainder(
+            next_pattern(&mut words)?,
+            pattern(words.rest()?)?,
         )),
-        (b"root", Some(a), None, None, None) => Some(Command::Root(pattern(a)?)),
-        (b"remainder", Some(x), Some(y), None, None) => Some(Command::Remainder(
-            pattern(x)?,
-            pattern(y)?,
-        )),
-        (b"count", Some(a), Some(b), None, None) => Some(Command::Count(signed(a)?, signed(b)?)),
-        (b"line", Some(n), None, None, None) => Some(Command::Line(unsigned(n)?)),
-        (b"last", None, None, None, None) => Some(Command::Last),
+        b"count" => Some(Command::Count(signed(words.next()?)?, signed(words.rest()?)?)),
+        b"line" => Some(Command::Line(unsigned(words.rest()?)?)),
+        b"last" if words.rest().is_none() => Some(Command::Last),
         _ => None,
     }
 }

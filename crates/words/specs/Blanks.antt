@@ -2,6 +2,7 @@
 use Rattle.std.specs.Prelude.{◌≡◌, ℕ, ◌+◌, ◌-◌, ◌<◌, ◌≤◌, ◌==◌, List, [], length, take, drop, ◌≢◌, Some, None, Option, slice_index}
 use Rattle.std.specs.Borrow.{Bor}
 use Rattle.std.specs.List.{slice_split}
+use Rattle.words.specs.declared.split.Words.{Words}
 
 -- n is its place, or the line's length where there is none
 pub record FirstBlank (line : List ℕ) (n : ℕ) : Type 0 where
@@ -22,3 +23,7 @@ words_of line = slice_split (λ b. b == 32) line
 abbrev pub words_after : Option (Bor (List ℕ)) → List (List ℕ)
 words_after None = []
 words_after (Some rest) = words_of rest.now
+
+-- the words that an iterator has left
+abbrev pub words_left : Words → List (List ℕ)
+words_left words = words_after words.0

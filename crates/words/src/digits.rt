@@ -9,8 +9,9 @@ fn more<const BASE: u32>(n: u32, byte: u8) -> Option<u32>
     requires { (2 ≤ BASE) × (BASE ≤ 16) }
     ensures { result ≡ more_in BASE n byte }
 {
-    n.checked_mul(BASE)?
-        .checked_add(char::from(byte).to_digit(BASE)?)
+    // In 64 bits and tested once: two checked operations a digit took longer.
+    let digit = char::from(byte).to_digit(BASE)?;
+    u32::try_from(u64::from(n) * u64::from(BASE) + u64::from(digit)).ok()
 }
 
 /// The number that digits write; nothing where another byte stands among them or where it does not fit 32 bits.
