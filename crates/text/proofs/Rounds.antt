@@ -6,9 +6,10 @@ use Rattle.std.proofs.lemmas.List.{get_or-map, get_or_default, length-map, same_
 use Rattle.text.specs.declared.refusal.Cause.{Cause}
 use Rattle.text.specs.declared.refusal.Cause.TheVariants.{Digits, Range}
 use Rattle.text.specs.declared.refusal.Fault.{Fault}
-use Rattle.text.specs.Columns.{judged, narrowed}
+use Rattle.std.specs.Borrow.{Bor}
+use Rattle.text.specs.Columns.{judged, narrowed, wide_of}
 use Rattle.text.specs.Cutting.{at_byte}
-use Rattle.text.specs.Judging.{digits_at, has, leftmost, narrow_at, number_of, numbers_of, or_else, range_at, unless}
+use Rattle.text.specs.Judging.{digits_at, has, leftmost, narrow_at, number_of, numbers_of, or_else, range_at, unless, wides_of}
 
 module _ (cause : Cause) where
   none_has : (rs : List (Result ℤ Cause)) (byte : ℕ) → ((k : ℕ) → k < length rs → has cause (get_or rs k (Ok (pos 0))) ≡ false) →
@@ -101,6 +102,13 @@ module _ (cs : List (Option ℤ)) (ws : List ℤ) where
         ap Ok (same_numbers rs ns (omega (arith, length-map cs judged)) in_range)
         ∙ sym (ap (λ (o : Option Fault). unless (or_else o (leftmost Range 1 rs)) (map number_of rs)) all_digits
         ∙ ap (λ (o : Option Fault). unless o (map number_of rs)) none)
+
+-- what a column writes
+pub read_wide : (columns : List (Bor (List ℕ))) (k : ℕ) (d : Bor (List ℕ)) → k < length columns → get_or (wides_of columns) k None ≡ wide_of (get_or columns k d).now
+read_wide columns k d h = get_or-map (λ (column : Bor (List ℕ)). wide_of column.now) columns k d None h
+
+pub count_wide : (columns : List (Bor (List ℕ))) → length (wides_of columns) ≡ length columns
+count_wide columns = length-map columns (λ (column : Bor (List ℕ)). wide_of column.now)
 
 -- what numbers come to is refused as they are, and made of them where they are not
 pub err_unless : {X : Type 0} (o : Option Fault) (ns : List ℤ) (fault : Fault) (x : X) → unless o ns ≡ Err fault → Err fault ≡ unless o x

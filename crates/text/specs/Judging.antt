@@ -1,12 +1,13 @@
 -- What a plan line says, or its fault.
 use Rattle.std.specs.Prelude.{ℕ, ◌+◌, Bool, cond, List, [], ◌∷◌, map, ℤ, pos, Some, None, Ok, Err, Option, Result, ◌==◌, nat_lt}
+use Rattle.std.specs.Borrow.{Bor}
 use Rattle.text.specs.declared.line.Entry.{Entry}
 use Rattle.text.specs.declared.line.Entry.TheVariants.{Datum, Tab, Remark}
 use Rattle.text.specs.declared.refusal.Cause.{Cause}
 use Rattle.text.specs.declared.refusal.Cause.TheVariants.{Count, Digits, Range}
 use Rattle.text.specs.declared.refusal.Fault.{Fault}
 use Rattle.text.specs.declared.refusal.Refusal.{Refusal}
-use Rattle.text.specs.Columns.{column_of, narrowed}
+use Rattle.text.specs.Columns.{column_of, narrowed, wide_of}
 use Rattle.text.specs.Cutting.{Parts, datum, tab, remark, at_byte, at_start, cut_of}
 use Rattle.text.specs.Numbering.{bad_line, cause_number}
 
@@ -69,6 +70,10 @@ refused_at number (Err fault) = Err (bad_line number fault)
 -- what line `number` says, counted from 1: past 999,999 lines it is refused whatever it holds
 abbrev pub judged_of : ℕ → List ℕ → Result Entry Refusal
 judged_of number line = cond (nat_lt 999999 number) (Err (bad_line number (at_start Count))) (refused_at number (line_of line))
+
+-- the numbers that parts of a line write as columns
+abbrev pub wides_of : List (Bor (List ℕ)) → List (Option ℤ)
+wides_of columns = map (λ (column : Bor (List ℕ)). wide_of column.now) columns
 
 -- the two halves of reading a column that begins at that byte
 abbrev pub digits_at : ℕ → Option ℤ → Result ℤ Fault

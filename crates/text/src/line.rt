@@ -3,7 +3,7 @@
 ghost use Rattle.std.specs.Prelude.{◌≡◌, ◌+◌, ◌*◌, ◌≤◌, length, map};
 ghost use Rattle.text.specs.Columns.{judged};
 ghost use Rattle.text.specs.Cutting.{at_byte, at_start, column, cut_of, parted, remark_sized, seen, sized};
-ghost use Rattle.text.specs.Judging.{digits_at, entry_of, judged_of, line_of, narrow_at, numbers_of};
+ghost use Rattle.text.specs.Judging.{digits_at, entry_of, judged_of, line_of, narrow_at, numbers_of, wides_of};
 
 use crate::column::{WIDTH, narrow, wide};
 use crate::next::is_ended;
@@ -118,14 +118,15 @@ fn narrow_at(number: i64, k: u8) -> Result<i32, Fault>
 }
 
 /// The numbers that some columns write: the digits of every column, and then the range of every number.
-fn numbers<const N: usize>(columns: [Option<i64>; N]) -> Result<[i32; N], Fault>
-    requires { N ≤ 3 }
-    ensures { result ≡ numbers_of (map judged columns.entry) }
+fn numbers<const N: usize>(columns: &[&[u8]]) -> Result<[i32; N], Fault>
+    requires { (N ≤ 3) × (length columns.now ≡ N) }
+    ensures { result ≡ numbers_of (map judged (wides_of columns.now)) }
 {
+    // A slice of columns, and no array: the check takes no array of references whose length is a const parameter.
     // Written by index: after an adapter of `iter_mut` a proof knows no element, and `array::try_from_fn` does not say that its error is the first.
     let mut wides = [0; N];
     for (k, column) in columns.iter().enumerate() {
-        wides[k] = digits_at(*column, k as u8)?;
+        wides[k] = digits_at(wide(column), k as u8)?;
     }
     let mut numbers = [0; N];
     for (k, wide) in wides.iter().enumerate() {
@@ -141,11 +142,11 @@ impl Line<'_> {
     {
         match self {
             Line::Datum { x, y, pitch } => {
-                let [x, y, pitch] = numbers([wide(x), wide(y), wide(pitch)])?;
+                let [x, y, pitch] = numbers::<3>(&[x, y, pitch])?;
                 Ok(Entry::Datum { x, y, pitch })
             }
             Line::Tab { x, y } => {
-                let [x, y] = numbers([wide(x), wide(y)])?;
+                let [x, y] = numbers::<2>(&[x, y])?;
                 Ok(Entry::Tab { x, y })
             }
             Line::Remark(_) => Ok(Entry::Remark),

@@ -1,14 +1,15 @@
 -- Each column passed has digits, and each number passed is in range.
 use Rattle.std.proofs.Common.{◌≡◌, ℕ, ◌<◌, get_or, length, pos, Some, None, Ok}
 use Rattle.text.specs.Columns.{narrowed}
+use Rattle.text.specs.Judging.{wides_of}
 use Rattle.text.proofs.line.numbers.Given as goal
 
 abbrev pub invariant-loop-k : goal.invariant-loop-k
 invariant-loop-k g l =
     record {
-      columns : length l.column-items ≡ g.row.N;
+      columns : length l.columns ≡ g.row.N;
       wides : length l.wides ≡ g.row.N;
-      passed : (j : ℕ) → j < l.k → get_or l.column-items j None ≡ Some (get_or l.wides j (pos 0));
+      passed : (j : ℕ) → j < l.k → get_or (wides_of l.columns) j None ≡ Some (get_or l.wides j (pos 0));
     }
 
 abbrev pub invariant-loop-k-2 : goal.invariant-loop-k-2
